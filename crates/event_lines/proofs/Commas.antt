@@ -1,6 +1,6 @@
 -- Events with a comma behind each: without the last comma they are lines.
-use Rattle.std.proofs.Common.{◌≡◌, ◌∙◌, ℕ, ◌+◌, ◌-◌, ◌<◌, ◌≤◌, List, [], ◌∷◌, ◌++◌, length, take, sym, refl, ap, arith, append_assoc, append-nil, length-append}
-use Rattle.std.proofs.Math.Seq.{take-append_seam}
+use Rattle.std.proofs.Common.{◌≡◌, ◌∙◌, ℕ, ◌+◌, List, [], ◌∷◌, ◌++◌, length, sym, refl, ap, ap₂, arith, append_assoc, append-nil, length-append}
+use Rattle.std.specs.Prelude.{Option, None, Some, MatchOption, ◌==◌, if◌then◌else◌}
 use Rattle.event_texts.specs.EventText.{event_lines}
 use Rattle.event_texts.specs.Records.{Piece}
 use Rattle.event_lines.specs.inside.Commas.{with_comma, with_commas}
@@ -22,23 +22,46 @@ event_lines-cons : (e : Piece) (es : List Piece) → event_lines (e ∷ es) ≡ 
 event_lines-cons e [] = refl
 event_lines-cons e (f ∷ es) = ap (λ xs. e ++ 44 ∷ 10 ∷ xs) (event_lines-cons f es) ∙ sym (append_assoc e (44 ∷ 10 ∷ between (f ∷ es)) (10 ∷ []))
 
--- behind a head: where there are events the last two bytes are cut off, and a line feed is put
-pub comma-dropped : (head : List ℕ) (es : List Piece) (old cut new : List ℕ) (n : ℕ)
-    → n ≡ length old → old ≡ head ++ with_commas es → length head < n → cut ≡ take (n - 2) old → new ≡ cut ++ 10 ∷ [] → new ≡ head ++ event_lines es
-comma-dropped head [] old cut new n size is some cut_is h =
-    let same : length old ≡ length head = ap length (is ∙ append-nil head) in absurd (omega arith)
-comma-dropped head (e ∷ es) old cut new n size is some cut_is h =
+-- the last byte of a text, and what stands before it
+last-same : (xs ys : List ℕ) (a b : ℕ) → xs ++ a ∷ [] ≡ ys ++ b ∷ [] → (xs ≡ ys) × (a ≡ b)
+last-same [] [] a b h = (refl, cc)
+last-same [] (y ∷ []) a b h = cc
+last-same [] (y ∷ z ∷ ys) a b h = cc
+last-same (x ∷ []) [] a b h = cc
+last-same (x ∷ z ∷ xs) [] a b h = cc
+last-same (x ∷ xs) (y ∷ ys) a b h =
+    let first : x ≡ y = cc in
+    let others : xs ++ a ∷ [] ≡ ys ++ b ∷ [] = cc in
+    let same = last-same xs ys a b others in
+    (ap₂ (λ z zs. z ∷ zs) first same.0, same.1)
+
+-- what an attempt to take off the last byte of a text leaves
+abbrev pub IsPopped : Option ℕ → List ℕ → List ℕ → Type 0
+IsPopped o old new = MatchOption o (old ≡ []) (λ b. old ≡ new ++ b ∷ [])
+
+-- of a text that ends in a byte, this byte is taken off
+pub last-popped : (o : Option ℕ) (old new cut : List ℕ) (b : ℕ) → IsPopped o old new → old ≡ cut ++ b ∷ [] → (o ≡ Some b) × (new ≡ cut)
+last-popped None old new cut b none is =
+    let size : 0 ≡ length cut + 1 = sym (ap length none) ∙ ap length is ∙ length-append cut (b ∷ []) in absurd (omega arith)
+last-popped (Some a) old new cut b taken is =
+    let same = last-same new cut a b (sym taken ∙ is) in
+    (ap Some same.1, same.0)
+
+-- a text whose last byte is taken off if it is a comma
+abbrev pub LosesComma : List ℕ → List ℕ → Type 0
+LosesComma old new = (cut : List ℕ) (b : ℕ) → old ≡ cut ++ b ∷ [] → new ≡ (if b == 44 then cut else old)
+
+-- Behind a head that ends in a bracket and a line feed: without the last line feed, the comma behind it if it is there, and with a line
+-- feed again, events are lines.
+pub comma-dropped : (start : List ℕ) (es : List Piece) (o : Option ℕ) (old rest cut new : List ℕ) → old ≡ (start ++ 91 ∷ 10 ∷ []) ++ with_commas es
+    → IsPopped o old rest → LosesComma rest cut → new ≡ cut ++ 10 ∷ [] → new ≡ (start ++ 91 ∷ 10 ∷ []) ++ event_lines es
+comma-dropped start [] o old rest cut new is taken loses h =
+    let head : List ℕ = start ++ 91 ∷ 10 ∷ [] in
+    let rest_is = (last-popped o old rest (start ++ 91 ∷ []) 10 taken (is ∙ append-nil head ∙ sym (append_assoc start (91 ∷ []) (10 ∷ [])))).1 in
+    h ∙ ap (λ xs. xs ++ 10 ∷ []) (loses start 91 rest_is ∙ rest_is) ∙ append_assoc start (91 ∷ []) (10 ∷ []) ∙ sym (append-nil head)
+comma-dropped start (e ∷ es) o old rest cut new is taken loses h =
+    let head : List ℕ = start ++ 91 ∷ 10 ∷ [] in
     let front : List ℕ = head ++ between (e ∷ es) in
     let whole : old ≡ front ++ 44 ∷ 10 ∷ [] = is ∙ ap (λ xs. head ++ xs) (with_commas-cons e es) ∙ sym (append_assoc head (between (e ∷ es)) (44 ∷ 10 ∷ [])) in
-    let all : length old ≡ length front + 2 = ap length whole ∙ length-append front (44 ∷ 10 ∷ []) in
-    let seam : n - 2 ≡ length front = omega arith in
-    h ∙ ap (λ xs. xs ++ 10 ∷ []) (cut_is ∙ ap (λ k. take k old) seam ∙ ap (λ xs. take (length front) xs) whole ∙ take-append_seam front (44 ∷ 10 ∷ []))
-    ∙ append_assoc head (between (e ∷ es)) (10 ∷ []) ∙ ap (λ xs. head ++ xs) (sym (event_lines-cons e es))
-
-pub no-comma : (head : List ℕ) (es : List Piece) (old : List ℕ) (n : ℕ) → n ≡ length old → old ≡ head ++ with_commas es → n ≤ length head → old ≡ head ++ event_lines es
-no-comma head [] old n size is none = is
-no-comma head (e ∷ es) old n size is none =
-    let whole : old ≡ head ++ (between (e ∷ es) ++ 44 ∷ 10 ∷ []) = is ∙ ap (λ xs. head ++ xs) (with_commas-cons e es) in
-    let all : length old ≡ length head + (length (between (e ∷ es)) + 2) =
-    ap length whole ∙ length-append head (between (e ∷ es) ++ 44 ∷ 10 ∷ []) ∙ ap (λ k. length head + k) (length-append (between (e ∷ es)) (44 ∷ 10 ∷ [])) in
-    absurd (omega arith)
+    let rest_is = (last-popped o old rest (front ++ 44 ∷ []) 10 taken (whole ∙ sym (append_assoc front (44 ∷ []) (10 ∷ [])))).1 in
+    h ∙ ap (λ xs. xs ++ 10 ∷ []) (loses front 44 rest_is) ∙ append_assoc head (between (e ∷ es)) (10 ∷ []) ∙ ap (λ xs. head ++ xs) (sym (event_lines-cons e es))

@@ -9,10 +9,11 @@ ghost use Rattle.event_lines.specs.TrackEvents.{budget_event, some_group};
 use crate::elements::resv_name;
 use crate::put::{put, put_microseconds, put_number};
 use crate::records::{END, Phase, put_begun};
+use crate::text_pieces::Pieces;
 use crate::tracks::BudgetSpan;
 use rt_base::ResvNo;
 use rt_task::Parts;
-use std::alloc::AllocError;
+use std::alloc::{AllocError, Global};
 
 /// What a count comes to, up to its name.
 #[tactic(auto, using(crate::proofs::Joins::joins))]
@@ -62,18 +63,20 @@ fn put_budget(
 /// The spans of a reservation.
 #[tactic(auto, using(crate::proofs::Joins::loops))]
 pub(crate) fn put_budget_spans(
-    text: &mut Vec<u8>,
+    alloc: Global,
+    text: &mut Pieces,
     set: &Parts,
     process: u64,
     resv: ResvNo,
     spans: &[BudgetSpan],
 ) -> Result<(), AllocError>
-    ensures { OnOk result (text.new.items ≡ text.old.items
+    ensures { OnOk result (text.new ≡ text.old
         ++ with_commas (map (budget_event (some_group set.now) process resv.0)
         (map budget_span_shown spans.now))) }
 {
     for span in spans {
-        put_budget(text, set, process, resv, *span)?;
+        put_budget(&mut text.last, set, process, resv, *span)?;
+        text.settle(alloc)?;
     }
     Ok(())
 }

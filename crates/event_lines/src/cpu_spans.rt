@@ -11,6 +11,7 @@ ghost use Rattle.event_lines.specs.TrackEvents.{cpu_span_events, some_group};
 use crate::elements::task_name;
 use crate::put::put;
 use crate::records::open_span;
+use crate::text_pieces::Pieces;
 use crate::threads::Thread;
 use crate::tracks::CpuSpan;
 use chart_cells::Playing;
@@ -96,19 +97,21 @@ fn put_span(
 /// The spans of a processor, on its thread.
 #[tactic(auto, using(crate::proofs::Joins::loops))]
 fn put_all_spans(
-    text: &mut Vec<u8>,
+    alloc: Global,
+    text: &mut Pieces,
     set: &Parts,
     thread: &Thread,
     cpu: CpuNo,
     spans: &[CpuSpan],
 ) -> Result<(), AllocError>
     requires { thread.now.number ≡ cpu.0 + 1 }
-    ensures { OnOk result (text.new.items ≡ text.old.items
+    ensures { OnOk result (text.new ≡ text.old
         ++ with_commas (flat_map (cpu_span_events (some_group set.now) thread.now.process cpu.0)
         (map cpu_span_shown spans.now))) }
 {
     for span in spans {
-        put_span(text, set, thread, cpu, *span)?;
+        put_span(&mut text.last, set, thread, cpu, *span)?;
+        text.settle(alloc)?;
     }
     Ok(())
 }
@@ -116,16 +119,16 @@ fn put_all_spans(
 /// The spans of a processor. Its thread has the number after its own.
 pub(crate) fn put_cpu_spans(
     alloc: Global,
-    text: &mut Vec<u8>,
+    text: &mut Pieces,
     set: &Parts,
     process: u64,
     cpu: CpuNo,
     spans: &[CpuSpan],
 ) -> Result<(), AllocError>
-    ensures { OnOk result (text.new.items ≡ text.old.items
+    ensures { OnOk result (text.new ≡ text.old
         ++ with_commas (flat_map (cpu_span_events (some_group set.now) process cpu.0)
         (map cpu_span_shown spans.now))) }
 {
     let thread = Thread::new(alloc, process, u64::from(cpu.0) + 1)?;
-    put_all_spans(text, set, &thread, cpu, spans)
+    put_all_spans(alloc, text, set, &thread, cpu, spans)
 }

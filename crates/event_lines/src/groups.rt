@@ -10,6 +10,7 @@ use crate::elements::{cpu_process, resv_process, task_process};
 use crate::job_marks::put_job_marks;
 use crate::names::{put_cpu_names, put_resv_names, put_task_names};
 use crate::task_spans::put_task_spans;
+use crate::text_pieces::Pieces;
 use crate::threads::Thread;
 use crate::tracks::{CpuTrack, GroupTracks, ResvTrack, TaskTrack};
 use rt_task::Parts;
@@ -18,28 +19,28 @@ use std::alloc::{AllocError, Global};
 #[tactic(auto, using(crate::proofs::Joins::loops))]
 fn put_task(
     alloc: Global,
-    text: &mut Vec<u8>,
+    text: &mut Pieces,
     set: &Parts,
     process: u64,
     track: &TaskTrack,
 ) -> Result<(), AllocError>
-    ensures { OnOk result (text.new.items ≡ text.old.items
+    ensures { OnOk result (text.new ≡ text.old
         ++ with_commas (task_events (some_group set.now) process (task_track_shown track.now))) }
 {
     let thread = Thread::new(alloc, process, u64::from(track.task.0))?;
-    put_task_spans(text, set, &thread, &track.spans)?;
-    put_job_marks(text, &thread, &track.jobs)
+    put_task_spans(alloc, text, set, &thread, &track.spans)?;
+    put_job_marks(alloc, text, &thread, &track.jobs)
 }
 
 #[tactic(auto, using(crate::proofs::Joins::loops))]
 fn put_tasks(
     alloc: Global,
-    text: &mut Vec<u8>,
+    text: &mut Pieces,
     set: &Parts,
     process: u64,
     tracks: &[TaskTrack],
 ) -> Result<(), AllocError>
-    ensures { OnOk result (text.new.items ≡ text.old.items
+    ensures { OnOk result (text.new ≡ text.old
         ++ with_commas (flat_map (task_events (some_group set.now) process)
         (map task_track_shown tracks.now))) }
 {
@@ -52,12 +53,12 @@ fn put_tasks(
 #[tactic(auto, using(crate::proofs::Joins::loops))]
 fn put_cpus(
     alloc: Global,
-    text: &mut Vec<u8>,
+    text: &mut Pieces,
     set: &Parts,
     process: u64,
     tracks: &[CpuTrack],
 ) -> Result<(), AllocError>
-    ensures { OnOk result (text.new.items ≡ text.old.items
+    ensures { OnOk result (text.new ≡ text.old
         ++ with_commas (flat_map (cpu_events (some_group set.now) process)
         (map cpu_track_shown tracks.now))) }
 {
@@ -69,17 +70,18 @@ fn put_cpus(
 
 #[tactic(auto, using(crate::proofs::Joins::loops))]
 fn put_resvs(
-    text: &mut Vec<u8>,
+    alloc: Global,
+    text: &mut Pieces,
     set: &Parts,
     process: u64,
     tracks: &[ResvTrack],
 ) -> Result<(), AllocError>
-    ensures { OnOk result (text.new.items ≡ text.old.items
+    ensures { OnOk result (text.new ≡ text.old
         ++ with_commas (flat_map (resv_events (some_group set.now) process)
         (map resv_track_shown tracks.now))) }
 {
     for track in tracks {
-        put_budget_spans(text, set, process, track.resv, &track.spans)?;
+        put_budget_spans(alloc, text, set, process, track.resv, &track.spans)?;
     }
     Ok(())
 }
@@ -87,31 +89,31 @@ fn put_resvs(
 #[tactic(auto, using(crate::proofs::Joins::loops), unfolding(crate::specs::TrackEvents::tracks_events))]
 fn put_group(
     alloc: Global,
-    text: &mut Vec<u8>,
+    text: &mut Pieces,
     set: &Parts,
     tracks: &GroupTracks,
 ) -> Result<(), AllocError>
-    ensures { OnOk result (text.new.items ≡ text.old.items
+    ensures { OnOk result (text.new ≡ text.old
         ++ with_commas (tracks_events (some_group set.now) (group_tracks_shown tracks.now))) }
 {
     let group = tracks.group;
-    put_task_names(text, set, group, &tracks.tasks)?;
-    put_cpu_names(text, group, &tracks.cpus)?;
-    put_resv_names(text, group, &tracks.resvs)?;
+    put_task_names(&mut text.last, set, group, &tracks.tasks)?;
+    put_cpu_names(&mut text.last, group, &tracks.cpus)?;
+    put_resv_names(&mut text.last, group, &tracks.resvs)?;
     put_tasks(alloc, text, set, task_process(group), &tracks.tasks)?;
     put_cpus(alloc, text, set, cpu_process(group), &tracks.cpus)?;
-    put_resvs(text, set, resv_process(group), &tracks.resvs)
+    put_resvs(alloc, text, set, resv_process(group), &tracks.resvs)
 }
 
 /// The events of groups, a comma behind each.
 #[tactic(auto, using(crate::proofs::Joins::loops))]
 pub(crate) fn put_groups(
     alloc: Global,
-    text: &mut Vec<u8>,
+    text: &mut Pieces,
     set: &Parts,
     groups: &[GroupTracks],
 ) -> Result<(), AllocError>
-    ensures { OnOk result (text.new.items ≡ text.old.items
+    ensures { OnOk result (text.new ≡ text.old
         ++ with_commas (flat_map (tracks_events (some_group set.now))
         (map group_tracks_shown groups.now))) }
 {

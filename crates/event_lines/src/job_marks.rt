@@ -9,9 +9,10 @@ ghost use Rattle.event_lines.specs.TrackEvents.{deadline_events, end_events, job
 
 use crate::put::{put, put_microseconds, put_number};
 use crate::records::END;
+use crate::text_pieces::Pieces;
 use crate::threads::Thread;
 use crate::tracks::{Due, JobMarks};
-use std::alloc::AllocError;
+use std::alloc::{AllocError, Global};
 
 const RELEASE: &[u8] = b",\"s\":\"t\",\"name\":\"release\",\"args\":{\"job\":";
 
@@ -120,16 +121,18 @@ fn put_marks(text: &mut Vec<u8>, thread: &Thread, marks: &JobMarks) -> Result<()
 /// The jobs of a task.
 #[tactic(auto, using(crate::proofs::Joins::loops))]
 pub(crate) fn put_job_marks(
-    text: &mut Vec<u8>,
+    alloc: Global,
+    text: &mut Pieces,
     thread: &Thread,
     jobs: &[JobMarks],
 ) -> Result<(), AllocError>
-    ensures { OnOk result (text.new.items ≡ text.old.items
+    ensures { OnOk result (text.new ≡ text.old
         ++ with_commas (flat_map (job_events thread.now.process thread.now.number)
         (map job_marks_shown jobs.now))) }
 {
     for marks in jobs {
-        put_marks(text, thread, marks)?;
+        put_marks(&mut text.last, thread, marks)?;
+        text.settle(alloc)?;
     }
     Ok(())
 }

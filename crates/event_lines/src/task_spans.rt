@@ -12,12 +12,13 @@ ghost use Rattle.event_lines.specs.TrackEvents.{some_group, task_span_events};
 use crate::elements::sem_name;
 use crate::put::{put, put_number, put_quoted, put_truth};
 use crate::records::{END, open_span};
+use crate::text_pieces::Pieces;
 use crate::threads::Thread;
 use crate::tracks::TaskSpan;
 use chart_cells::{Cell, Doing};
 use rt_base::{CpuNo, SemNo};
 use rt_task::{Parts, Sem};
-use std::alloc::AllocError;
+use std::alloc::{AllocError, Global};
 
 /// The category of a span, and the words with which its name begins.
 fn head_of(doing: &Doing) -> &'static [u8]
@@ -184,18 +185,20 @@ fn put_span(
 /// The spans of a task.
 #[tactic(auto, using(crate::proofs::Joins::loops))]
 pub(crate) fn put_task_spans(
-    text: &mut Vec<u8>,
+    alloc: Global,
+    text: &mut Pieces,
     set: &Parts,
     thread: &Thread,
     spans: &[TaskSpan],
 ) -> Result<(), AllocError>
-    ensures { OnOk result (text.new.items ≡ text.old.items
+    ensures { OnOk result (text.new ≡ text.old
         ++ with_commas (flat_map
         (task_span_events (some_group set.now) thread.now.process thread.now.number)
         (map task_span_shown spans.now))) }
 {
     for span in spans {
-        put_span(text, set, thread, span)?;
+        put_span(&mut text.last, set, thread, span)?;
+        text.settle(alloc)?;
     }
     Ok(())
 }

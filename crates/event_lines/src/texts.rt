@@ -1,14 +1,15 @@
 //! The text of trace events.
-ghost use Rattle.std.specs.Prelude.{◌≡◌, ◌++◌, List, map, IfOk, OnOk};
+ghost use Rattle.std.specs.Prelude.{◌≡◌, ◌==◌, [], ◌∷◌, ◌++◌, if◌then◌else◌, ℕ, List, map, IfOk, OnOk};
 ghost use Rattle.event_texts.specs.EventText.{event_lines};
 ghost use Rattle.event_texts.specs.Records.{Piece};
 ghost use Rattle.event_lines.specs.inside.Commas.{with_commas};
 ghost use Rattle.event_lines.specs.Shown.{group_tracks_shown};
 ghost use Rattle.event_lines.specs.TrackEvents.{tracks_text};
+ghost use Rattle.event_lines.specs.WholeText.{whole_text};
 
 use crate::groups::put_groups;
 use crate::put::put;
-use crate::room::room;
+use crate::text_pieces::Pieces;
 use crate::tracks::GroupTracks;
 use rt_base::NoMemory;
 use rt_task::Parts;
@@ -16,31 +17,45 @@ use std::alloc::{AllocError, Global};
 
 const HEAD: &[u8] = b"{\"displayTimeUnit\":\"ms\",\"traceEvents\":[\n";
 
-/// Where events stand behind the head, the last loses its comma.
-fn drop_last_comma(text: &mut Vec<u8>) -> Result<(), AllocError>
-    ensures { OnOk result ((events : List Piece)
-        → text.old.items ≡ HEAD.now ++ with_commas events
-        → text.new.items ≡ HEAD.now ++ event_lines events) }
+/// Takes off the last byte, if it is a comma.
+fn drop_comma(text: &mut Pieces) -> Result<(), AllocError>
+    ensures { OnOk result ((front : List ℕ) (last : ℕ) → text.old ≡ front ++ last ∷ []
+        → text.new ≡ (if last == 44 then front else text.old)) }
 {
-    let end = text.len();
-    if end > HEAD.len() {
-        text.truncate(end - 2);
-        put(text, b"\n")?;
+    match text.pop() {
+        None | Some(b',') => Ok(()),
+        Some(byte) => put(&mut text.last, &[byte]),
     }
-    Ok(())
+}
+
+/// Where events stand behind the head, the last loses its comma.
+fn drop_last_comma(text: &mut Pieces) -> Result<(), AllocError>
+    ensures { OnOk result ((events : List Piece)
+        → text.old ≡ HEAD.now ++ with_commas events
+        → text.new ≡ HEAD.now ++ event_lines events) }
+{
+    let _line_feed = text.pop();
+    drop_comma(text)?;
+    put(&mut text.last, b"\n")
 }
 
 /// The text of the trace events that the groups of a set tell, as JSON: of each group the names of its processes and threads, and
 /// what its tasks, processors and reservations do. A number that stands for nothing in the set has the empty name. Memory is taken
 /// for the text, and for what the events of one thread begin with.
-pub fn event_text(alloc: Global, parts: &Parts, groups: &[GroupTracks]) -> Result<Vec<u8>, NoMemory>
-    ensures { IfOk result (λ v. v.items
+///
+/// The text comes in pieces of some 64 KiB.
+pub fn event_text(
+    alloc: Global,
+    parts: &Parts,
+    groups: &[GroupTracks],
+) -> Result<Vec<Vec<u8>>, NoMemory>
+    ensures { IfOk result (λ v. whole_text v.items
         ≡ tracks_text parts.now (map group_tracks_shown groups.now)) }
 {
-    let mut text = Vec::with_capacity(alloc, room(groups))?;
-    put(&mut text, HEAD)?;
+    let mut text = Pieces::new(alloc)?;
+    put(&mut text.last, HEAD)?;
     put_groups(alloc, &mut text, parts, groups)?;
     drop_last_comma(&mut text)?;
-    put(&mut text, b"]}\n")?;
-    Ok(text)
+    put(&mut text.last, b"]}\n")?;
+    Ok(text.into_pieces()?)
 }

@@ -1,7 +1,6 @@
 -- The answers of `rtview`, by how its reading and its writing ended.
 use Rattle.std.proofs.Common.{◌≡◌, ℕ, List, ap, sym, subst}
-use Rattle.std.specs.Prelude.{Option, None, Some, Result, Ok, Err, IfOk, Vec}
-use Rattle.std.specs.declared.alloc.Global.{Global}
+use Rattle.std.specs.Prelude.{Option, None, Some, Result, Ok, Err, IfOk}
 use Rattle.rt_base.specs.declared.NoMemory.{NoMemory}
 use Rattle.rt_base.specs.declared.TheConstants.{MOST_TRACE_BYTES}
 use Rattle.rt_task.specs.Validity.{IsValid}
@@ -22,7 +21,7 @@ use Rattle.sim_commands.specs.Check.{WasNoTrace, WasTrace}
 use Rattle.sim_commands.proofs.CheckLaws.{can_check-told, can_check-unrefused, can_check-valid}
 use Rattle.view_command.specs.View.{IsViewOf, WasWrong}
 use Rattle.view_command.specs.ViewAnswers.{ViewAnswers}
-use Rattle.view_command.specs.inside.Viewing.{IsTextOf, IsViewed, comes}
+use Rattle.view_command.specs.inside.Viewing.{IsTextOf, IsViewed, Pieces, comes}
 use Rattle.view_command.specs.declared.ending.ViewEnd.{ViewEnd}
 use Rattle.view_command.specs.declared.ending.ViewEnd.TheVariants.{Ended, NoSuchEntry}
 use Rattle.view_command.specs.declared.views.View.{View}
@@ -33,7 +32,7 @@ on-ok (Ok x) h step = step x h
 on-ok (Err e) h step = tt
 
 -- what the plays of a valid trace have of a view is what comes of it
-pub view-said : (tools : List Tool) (v : Version) (p : Parts) (bytes : List ℕ) (view : View) (entries : ℕ) (r : Result (Option (Vec ℕ Global)) NoMemory) → IsValid p
+pub view-said : (tools : List Tool) (v : Version) (p : Parts) (bytes : List ℕ) (view : View) (entries : ℕ) (r : Result (Option Pieces) NoMemory) → IsValid p
     → (is : IsValidText tools v p bytes entries) → IfOk r (IsTextOf view p is.histories) → IsViewed tools v p bytes view (comes r)
 view-said tools v p bytes view entries (Ok (Some text)) valid is h = record {
   entries = entries;

@@ -1,5 +1,5 @@
 //! The top call: a view of a trace.
-ghost use Rattle.std.specs.Prelude.{◌≡◌, ◌≢◌, map, Err, IfOk, List, Some};
+ghost use Rattle.std.specs.Prelude.{◌≡◌, ◌≢◌, map, option_map, Err, IfOk, List, Some};
 ghost use Rattle.rt_rules.specs.declared.history.Entry.{Entry};
 ghost use Rattle.chart_texts.specs.Charts.{pasts_from};
 ghost use Rattle.event_lines.specs.Shown.{group_tracks_shown};
@@ -12,17 +12,19 @@ ghost use Rattle.trace_read.specs.Reads.{IsHeadOf};
 ghost use Rattle.trace_text.specs.Groups.{AreGroupsOf, histories};
 ghost use Rattle.set_input.specs.Ends.{reading, writing};
 ghost use Rattle.view_command.specs.Ends.{TellsFaults};
+ghost use Rattle.view_command.specs.Texts.{view_text};
 ghost use Rattle.view_command.specs.inside.Windows.{Fits};
 ghost use Rattle.view_command.specs.ViewAnswers.{ViewAnswers};
 ghost use Rattle.view_command.specs.inside.Viewing.{IsTextOf, IsViewed, comes};
 ghost use Rattle.view_command.specs.Words as commands;
 
 use crate::ending::ViewEnd;
+use crate::pieces::put_pieces;
 use crate::views::View;
 use crate::words::view_of;
 use event_lines::{GroupTracks, event_text};
 use rt_base::NoMemory;
-use rt_fault::{Sink, Source, Status, put_all};
+use rt_fault::{Sink, Source, Status};
 use rt_task::Setup;
 use sim_commands::read_trace_input;
 use std::alloc::Global;
@@ -37,7 +39,7 @@ use view_why::why_text;
 
 /// The text of a view of a setup and the histories of its groups, but that of its trace events; none where there is no such group
 /// or entry.
-fn text_of(
+fn whole_text_of(
     alloc: Global,
     view: View,
     setup: &Setup,
@@ -46,7 +48,8 @@ fn text_of(
     requires groups { AreGroupsOf setup.now groups.now }
     requires fits { Fits view }
     requires other { view ≢ View.Events }
-    ensures { IfOk result (IsTextOf view setup.now (histories groups.now)) }
+    ensures { IfOk result (λ o. option_map (λ v. v.items) o
+        ≡ view_text view setup.now (histories groups.now)) }
 {
     let text = match view {
         View::Table(table) => table_text(alloc, table, setup, groups)?,
@@ -57,8 +60,26 @@ fn text_of(
     Ok(Some(text))
 }
 
+/// The same in pieces.
+fn text_of(
+    alloc: Global,
+    view: View,
+    setup: &Setup,
+    groups: &[PlayedGroup],
+) -> Result<Option<Vec<Vec<u8>>>, NoMemory>
+    requires groups { AreGroupsOf setup.now groups.now }
+    requires fits { Fits view }
+    requires other { view ≢ View.Events }
+    ensures { IfOk result (IsTextOf view setup.now (histories groups.now)) }
+{
+    match whole_text_of(alloc, view, setup, groups)? {
+        Some(text) => Ok(Some(vec![in alloc; text]?)),
+        None => Ok(None),
+    }
+}
+
 /// What comes of a trace whose plays have this text of the view, if any.
-fn there(text: Result<Option<Vec<u8>>, NoMemory>) -> Result<Vec<u8>, ViewEnd>
+fn there(text: Result<Option<Vec<Vec<u8>>>, NoMemory>) -> Result<Vec<Vec<u8>>, ViewEnd>
     ensures { result ≡ comes text }
 {
     match text {
@@ -69,7 +90,7 @@ fn there(text: Result<Option<Vec<u8>>, NoMemory>) -> Result<Vec<u8>, ViewEnd>
 }
 
 /// That this line of a trace is the first that is wrong.
-fn wrong(line: u32) -> Result<Vec<u8>, ViewEnd>
+fn wrong(line: u32) -> Result<Vec<Vec<u8>>, ViewEnd>
     ensures { result ≡ Err (ViewEnd.Ended (Status.Invalid line)) }
 {
     Err(ViewEnd::Ended(Status::Invalid(line)))
@@ -80,20 +101,22 @@ fn wrong(line: u32) -> Result<Vec<u8>, ViewEnd>
 fn replayed<T: TraceTool>(
     alloc: Global,
     view: View,
-    bytes: &[u8],
+    bytes: Vec<u8>,
     head: &TraceHead,
     bus: &mut Bus<T>,
-) -> Result<Vec<u8>, ViewEnd>
-    requires head { IsHeadOf bytes.now head.now }
+) -> Result<Vec<Vec<u8>>, ViewEnd>
+    requires head { IsHeadOf bytes.items head.now }
     requires valid { IsValid head.now.setup }
     requires fits { Fits view }
     requires other { view ≢ View.Events }
     requires opened { (tools : List Tool) × (counters T.tool bus.old ≡ map counter_of tools) }
     ensures { (tools : List Tool) → counters T.tool bus.old ≡ map counter_of tools
-        → IsViewed tools head.now.version head.now.setup bytes.now view result }
+        → IsViewed tools head.now.version head.now.setup bytes.items view result }
 {
-    match check_groups(alloc, bytes, head, bus) {
+    match check_groups(alloc, bytes.as_slice(), head, bus) {
         Ok((Verdict::Valid(_), groups)) => {
+            // The text comes to lie where the trace lay.
+            drop(bytes);
             there(text_of(alloc, view, &head.setup, groups.as_slice()))
         }
         Ok((Verdict::Invalid(line), _)) => wrong(line),
@@ -106,7 +129,7 @@ fn text_of_tracks(
     alloc: Global,
     setup: &Setup,
     tracks: &[GroupTracks],
-) -> Result<Option<Vec<u8>>, NoMemory>
+) -> Result<Option<Vec<Vec<u8>>>, NoMemory>
     ensures { IfOk result (λ o. (hs : List (List Entry))
         → map group_tracks_shown tracks.now ≡ tracks_of_groups (pasts_from setup.now 0 hs)
         → IsTextOf View.Events setup.now hs o) }
@@ -119,17 +142,19 @@ fn text_of_tracks(
 /// checked.
 fn recorded<T: TraceTool>(
     alloc: Global,
-    bytes: &[u8],
+    bytes: Vec<u8>,
     head: &TraceHead,
     bus: &mut Bus<T>,
-) -> Result<Vec<u8>, ViewEnd>
-    requires head { IsHeadOf bytes.now head.now }
+) -> Result<Vec<Vec<u8>>, ViewEnd>
+    requires head { IsHeadOf bytes.items head.now }
     requires valid { IsValid head.now.setup }
     ensures { (tools : List Tool) → counters T.tool bus.old ≡ map counter_of tools
-        → IsViewed tools head.now.version head.now.setup bytes.now View.Events result }
+        → IsViewed tools head.now.version head.now.setup bytes.items View.Events result }
 {
-    match check_tracks(alloc, bytes, head, bus) {
+    match check_tracks(alloc, bytes.as_slice(), head, bus) {
         Ok((Verdict::Valid(_), tracks)) => {
+            // The text comes to lie where the trace lay.
+            drop(bytes);
             there(text_of_tracks(alloc, &head.setup, tracks.as_slice()))
         }
         Ok((Verdict::Invalid(line), _)) => wrong(line),
@@ -141,15 +166,15 @@ fn recorded<T: TraceTool>(
 fn text_in<T: TraceTool>(
     alloc: Global,
     view: View,
-    bytes: &[u8],
+    bytes: Vec<u8>,
     head: &TraceHead,
     tools: Vec<T>,
-) -> Result<Vec<u8>, ViewEnd>
-    requires head { IsHeadOf bytes.now head.now }
+) -> Result<Vec<Vec<u8>>, ViewEnd>
+    requires head { IsHeadOf bytes.items head.now }
     requires valid { IsValid head.now.setup }
     requires fits { Fits view }
     ensures { IsViewed (map T.tool tools.items) head.now.version head.now.setup
-        bytes.now view result }
+        bytes.items view result }
 {
     let Ok(mut bus) = Bus::open(alloc, tools) else {
         return Err(ViewEnd::Ended(Status::NoMemory));
@@ -181,11 +206,11 @@ fn write_view<T: TraceTool, S: Source, K: Sink>(
         Ok(input) => input,
         Err(status) => return ViewEnd::Ended(status),
     };
-    let text = match text_in(alloc, view, bytes.as_slice(), &head, tools) {
+    let text = match text_in(alloc, view, bytes, &head, tools) {
         Ok(text) => text,
         Err(end) => return end,
     };
-    if put_all(out, text.as_slice()).is_err() {
+    if put_pieces(out, text.as_slice()).is_err() {
         return ViewEnd::Ended(Status::WriteFault);
     }
     ViewEnd::Ended(Status::Ok)

@@ -3,6 +3,7 @@
 
 mod dispatch;
 mod ending;
+mod pieces;
 mod views;
 mod words;
 

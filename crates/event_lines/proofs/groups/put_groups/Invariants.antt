@@ -6,4 +6,4 @@ use Rattle.event_lines.proofs.groups.put_groups.Given as goal
 
 -- what was written, and then what is left, is the whole
 abbrev pub invariant-loop-tracks : goal.invariant-loop-tracks
-invariant-loop-tracks l = l.text.items ++ with_commas (flat_map (tracks_events (some_group l.set)) (map group_tracks_shown (drop l.tracks-index l.groups))) ≡ l.fn.text.items ++ with_commas (flat_map (tracks_events (some_group l.set)) (map group_tracks_shown l.groups))
+invariant-loop-tracks l = l.text ++ with_commas (flat_map (tracks_events (some_group l.set)) (map group_tracks_shown (drop l.tracks-index l.groups))) ≡ l.fn.text ++ with_commas (flat_map (tracks_events (some_group l.set)) (map group_tracks_shown l.groups))

@@ -6,4 +6,4 @@ use Rattle.event_lines.proofs.groups.put_resvs.Given as goal
 
 -- what was written, and then what is left, is the whole
 abbrev pub invariant-loop-track : goal.invariant-loop-track
-invariant-loop-track l = l.text.items ++ with_commas (flat_map (resv_events (some_group l.set) l.process) (map resv_track_shown (drop l.track-index l.tracks))) ≡ l.fn.text.items ++ with_commas (flat_map (resv_events (some_group l.set) l.process) (map resv_track_shown l.tracks))
+invariant-loop-track l = l.text ++ with_commas (flat_map (resv_events (some_group l.set) l.process) (map resv_track_shown (drop l.track-index l.tracks))) ≡ l.fn.text ++ with_commas (flat_map (resv_events (some_group l.set) l.process) (map resv_track_shown l.tracks))

@@ -1,12 +1,13 @@
-use Rattle.std.proofs.Common.{◌∙◌, codes}
-use Rattle.event_lines.proofs.Commas.{comma-dropped, no-comma}
+use Rattle.std.proofs.Common.{codes}
+use Rattle.std.proofs.lemmas.Result.{on_ok_weaker}
+use Rattle.event_lines.specs.WholeText.{whole_text}
+use Rattle.event_lines.proofs.Chains.{last_put}
+use Rattle.event_lines.proofs.Commas.{comma-dropped}
 use Rattle.event_lines.proofs.texts.drop_last_comma.Goals as goal
 
-pub returns-in_ok-put : goal.returns-in_ok-put
-returns-in_ok-put c = λ events is.
-    comma-dropped (codes "{\"displayTimeUnit\":\"ms\",\"traceEvents\":[\n") events c.args.text.now.items _ _ c.len-end.result (c.len-end.ensures ∙ c.args.text.now.ok.0)
-    is c.if-end.true c.truncate.ensures.items c.in_ok-put.ensures
-
-pub returns-else-end : goal.returns-else-end
-returns-else-end c = λ events is.
-    no-comma (codes "{\"displayTimeUnit\":\"ms\",\"traceEvents\":[\n") events c.args.text.now.items c.len-end.result (c.len-end.ensures ∙ c.args.text.now.ok.0) is c.if-end.false
+pub returns : goal.returns
+returns c =
+    on_ok_weaker c.put.result (λ last events is.
+    comma-dropped (codes "{\"displayTimeUnit\":\"ms\",\"traceEvents\":") events c.pop-line_feed.result c.args.text.now c.pop-line_feed.new.self c.drop_comma.new.text _ is
+    c.pop-line_feed.ensures c.in_ok-drop_comma.ensures
+    (last_put (whole_text c.text.inside.whole.items) c.text.inside.last.items c.put.new.text.items c.drop_comma.new.text _ c.text.view_is last)) c.put.ensures

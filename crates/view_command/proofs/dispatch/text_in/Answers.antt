@@ -12,7 +12,7 @@ returns-in-Events g c =
     let h = c.args.head.now in
     let tools : List Tool = map g.T.TraceTool.tool c.args.tools.items in
     let opened : counters g.T.TraceTool.tool c.in-Ok.bus ≡ map counter_of tools = c.in-Ok.ensures ∙ sym (map-map counter_of g.T.TraceTool.tool c.args.tools.items) in
-    subst (λ (w : View). IsViewed tools h.version h.setup c.args.bytes.now w c.recorded.result) (sym c.in-Events.is) (c.recorded.ensures tools opened)
+    subst (λ (w : View). IsViewed tools h.version h.setup c.args.bytes.items w c.recorded.result) (sym c.in-Events.is) (c.recorded.ensures tools opened)
 
 pub replayed-requires-clause-opened : goal.replayed-requires-clause-opened
 replayed-requires-clause-opened g c =
