@@ -1,6 +1,6 @@
 -- The last of some spans: it lasts longer, and where its value is added it does nothing else.
 use Rattle.std.proofs.Common.{◌≡◌, ◌∙◌, ℕ, zero, suc, inl, inr, Bool, true, false, List, [], ◌∷◌, length, get_or, set, refl, sym, ap, arith}
-use Rattle.std.specs.Prelude.{Option, None}
+use Rattle.std.specs.Prelude.{Option, None, Some}
 use Rattle.trace_views.specs.Cells.{TaskCell}
 use Rattle.trace_views.specs.Cells as cells
 use Rattle.trace_views.specs.Spans.{Span}
@@ -11,9 +11,9 @@ use Rattle.chart_rows.specs.Rows.{TaskKept, task_cleared}
 use Rattle.rt_model.specs.Group.{Group}
 use Rattle.event_texts.specs.TaskSpans as task_texts
 use Rattle.event_lines.specs.Tracks.{TaskTrack}
-use Rattle.span_feed.specs.Begun.{IsHeld, IsLeft}
+use Rattle.span_feed.specs.Begun.{GoesOn, IsHeld, IsLeft, IsRunOrReady}
 use Rattle.span_feed.specs.Extended.{Decides, extended}
-use Rattle.span_feed.specs.Lane.{LastIs, TaskLane, last_to, spans_to, track_to}
+use Rattle.span_feed.specs.Lane.{EndsWith, LastIs, TaskLane, gone, last_to, spans_to, track_to}
 use Rattle.span_feed.specs.Spanned.{task_more}
 
 module _ {A : Type 0} (same : A → A → Bool) (from to : ℕ) (x : A) where
@@ -56,21 +56,41 @@ module _ {A : Type 0} where
   last-found (suc i) (r ∷ []) s x last is h = absurd (omega arith)
   last-found (suc i) (r ∷ q ∷ ss) s x last is h = last-found i (q ∷ ss) s x (omega arith) is h
 
+pub ends-by : (o : Option TaskCell) (ss : List (Span TaskCell)) → ((c : TaskCell) → o ≡ Some c → LastIs c ss) → EndsWith o ss
+ends-by None ss last = tt
+ends-by (Some c) ss last = last c refl
+
 -- ---- a cell that is ready as its column ends is that of the state
 
 pub ready-unrun : (qs : List ℕ) (j : ReadyJob) (c : TaskCell) → c ≡ finished qs (ready_cell j) → c.doing ≡ cells.ready → c ≡ ready_cell j
 ready-unrun [] j c is ready = is
 ready-unrun (q ∷ qs) j c is ready = let no : cells.running (q ∷ qs) ≡ cells.ready = sym (ap (λ (k : TaskCell). k.doing) is) ∙ ready in cc
 
--- ---- what is held of a column that is taken
+-- ---- a column that is taken
 
-pub held-left : (g : Group) (known still still' : Option ReadyJob) (k was new : TaskKept) → IsHeld known still still' was new → was ≡ task_cleared g k → IsLeft g known k new
-held-left g known still still' k was new (inl h) cleared = inl (h.1 ∙ cleared)
-held-left g known still still' k was new (inr h) cleared = inr (h.0, h.1, h.3 ∙ ap (λ (x : TaskKept). let y : TaskKept = record x { kept = ready_cell h.0 } in y) cleared)
+-- where the task goes on as it did, its row shows that
+pub goes-on-shown : (known : Option ReadyJob) (c : TaskCell) (k : TaskKept) → IsRunOrReady known k → GoesOn known c k → k.kept ≡ c
+goes-on-shown known c k run (inl h) = h.1 ∙ sym h.0
+goes-on-shown known c k run (inr h) = let r = run h.0 h.2 in ready-unrun r.0 h.0 k.kept r.1 h.3 ∙ sym h.1
 
-pub held-track : (from to : ℕ) (known still : Option ReadyJob) (k : TaskKept) (x : TaskTrack) (was : TaskKept) (l : TaskLane) (new : TaskKept) → l.track ≡ task_more from to k x → still ≡ None → IsHeld known still l.still was new
-    → track_to to l ≡ task_more from to k x
-held-track from to known still k x was l new made none (inl h) = (λ i. record l.track { spans = spans_to to ((h.0 ∙ none) i) l.track.spans }) ∙ made
-held-track from to known still k x was l new made none (inr h) =
-    (λ i. record l.track { spans = spans_to to (h.2 i) l.track.spans }) ∙ (λ i. record (made i) { spans = last_to to (made i).spans })
-    ∙ (λ i. record (task_more from to k x) { spans = last-is-there task_texts.same_cell from to k.kept x.spans i })
+-- and its row is as it should be for the next column
+pub goes-on-left : (g : Group) (known : Option ReadyJob) (c : TaskCell) (k : TaskKept) → IsRunOrReady known k → GoesOn known c k → IsLeft g known k (record k { end = false })
+goes-on-left g known c k run (inl h) = inl (λ i. record (task_cleared g k) { kept = h.1 i })
+goes-on-left g known c k run (inr h) = let r = run h.0 h.2 in inr (h.0, h.2, λ i. record (task_cleared g k) { kept = ready-unrun r.0 h.0 k.kept r.1 h.3 i })
+
+pub held-left : (g : Group) (known : Option ReadyJob) (lasts lasts' : Option TaskCell) (k was new : TaskKept) → IsHeld known lasts lasts' was new → was ≡ task_cleared g k → IsLeft g known k new
+held-left g known lasts lasts' k was new (inl h) cleared = inl (h.0 ∙ cleared)
+held-left g known lasts lasts' k was new (inr h) cleared = inr (h.0, h.1, h.3 ∙ ap (λ (x : TaskKept). let y : TaskKept = record x { kept = ready_cell h.0 } in y) cleared)
+
+pub held-track : (from to : ℕ) (known : Option ReadyJob) (k : TaskKept) (x : TaskTrack) (was : TaskKept) (l : TaskLane) (new : TaskKept) → l.track ≡ task_more from to k x → IsHeld known None l.lasts was new → track_to to l ≡ task_more from to k x
+held-track from to known k x was l new made held = by_held held
+  where
+    lasting_on : (c : TaskCell) → l.lasts ≡ Some c → track_to to l ≡ task_more from to k x
+    lasting_on c is =
+        (λ i. record l.track { spans = spans_to to (is i) l.track.spans }) ∙ (λ i. record (made i) { spans = last_to to (made i).spans })
+        ∙ (λ i. record (task_more from to k x) { spans = last-is-there task_texts.same_cell from to k.kept x.spans i })
+
+    by_held : IsHeld known None l.lasts was new → track_to to l ≡ task_more from to k x
+    by_held (inl (same, inl none)) = (λ i. record l.track { spans = spans_to to (none i) l.track.spans }) ∙ made
+    by_held (inl (same, inr away)) = lasting_on gone away
+    by_held (inr h) = lasting_on (ready_cell h.0) h.2

@@ -29,7 +29,7 @@ module _ (js : List (Option ReadyJob)) (from to n : ℕ) (rows new : List TaskKe
 
   -- a lane that stands for none
   nothing : TaskLane
-  nothing = record { track = record { task = 0; spans = []; jobs = [] }; still = None }
+  nothing = record { track = record { task = 0; spans = []; jobs = [] }; lasts = None }
 
   pub taken-cleared : (g : Group) → map (task_cleared g) new ≡ map (task_cleared g) rows
   taken-cleared g = maps-same (task_cleared g) rows new rows_long (λ i d low. left-cleared g _ (get_or rows i d) (get_or new i d) ((each i d nothing low).0 g))

@@ -2,12 +2,15 @@
 -- before, since the next state shows the same.
 use Rattle.std.specs.Prelude.{◌≡◌, ◌⊎◌, ℕ, List, map, All, Option, None, Some, slice_index_or}
 use Rattle.rt_model.specs.Group.{Group}
+use Rattle.trace_views.specs.Cells.{TaskCell}
+use Rattle.trace_views.specs.Cells as cells
 use Rattle.chart_cells.specs.Kept.{finished}
 use Rattle.chart_rows.specs.ReadyJobs.{ready_cell}
 use Rattle.chart_rows.specs.Rows.{RowsKept, TaskKept, task_cleared}
 use Rattle.chart_rows.specs.Strips.{Strip, blank}
 use Rattle.chart_rows.specs.declared.ready_jobs.ReadyJob.{ReadyJob}
 use Rattle.event_lines.specs.Tracks.{GroupTracks}
+use Rattle.span_feed.specs.Lane.{gone}
 use Rattle.span_feed.specs.Spanned.{HasSpans}
 
 module _ (g : Group) where
@@ -33,7 +36,13 @@ IsShown js k = (j : ReadyJob) → slice_index_or js k.task None ≡ Some j → k
 abbrev pub IsRunOrReady : Option ReadyJob → TaskKept → Type 0
 IsRunOrReady known k = (j : ReadyJob) → known ≡ Some j → (qs : List ℕ) × (k.kept ≡ finished qs (ready_cell j))
 
--- the cell of a ready job is left in a row, and the spans of its task stay as they are; or nothing is done
-abbrev pub IsHeld : Option ReadyJob → Option ReadyJob → Option ReadyJob → TaskKept → TaskKept → Type 0
-IsHeld known still still' k new =
-    ((still' ≡ still) × (new ≡ k)) ⊎ ((j : ReadyJob) × (known ≡ Some j) × (still' ≡ Some j) × (new ≡ (let c : TaskKept = record k { kept = ready_cell j } in c)))
+-- the cell of a ready job is left in a row that is begun, or nothing; and it is known what the task goes on to show, or not
+abbrev pub IsHeld : Option ReadyJob → Option TaskCell → Option TaskCell → TaskKept → TaskKept → Type 0
+IsHeld known lasts lasts' k new =
+    ((new ≡ k) × ((lasts' ≡ lasts) ⊎ (lasts' ≡ Some gone)))
+    ⊎ ((j : ReadyJob) × (known ≡ Some j) × (lasts' ≡ Some (ready_cell j)) × (new ≡ (let c : TaskKept = record k { kept = ready_cell j } in c)))
+
+-- a row shows at the end of its column what its task goes on to show
+abbrev pub GoesOn : Option ReadyJob → TaskCell → TaskKept → Type 0
+GoesOn known c k =
+    ((c ≡ gone) × (k.kept ≡ gone)) ⊎ ((j : ReadyJob) × (c ≡ ready_cell j) × (known ≡ Some j) × (k.kept.doing ≡ cells.ready))

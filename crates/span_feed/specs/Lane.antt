@@ -1,15 +1,27 @@
--- The spans of a task over the ticks that are over, of which the last is left as it is while the task stays ready.
-use Rattle.std.specs.Prelude.{◌≡◌, ℕ, ⊤, List, [], ◌∷◌, Option, None, Some}
+-- The spans of a task over the ticks that are over, of which the last is left as it is while the task does the same.
+use Rattle.std.specs.Prelude.{◌≡◌, ℕ, ⊤, false, List, [], ◌∷◌, Option, None, Some}
 use Rattle.trace_views.specs.Cells.{TaskCell}
+use Rattle.trace_views.specs.Cells as cells
 use Rattle.trace_views.specs.Spans.{Span}
 use Rattle.chart_rows.specs.ReadyJobs.{ready_cell}
-use Rattle.chart_rows.specs.declared.ready_jobs.ReadyJob.{ReadyJob}
 use Rattle.event_lines.specs.Tracks.{TaskTrack}
+use Rattle.span_feed.specs.declared.stay.Stay.{Stay}
+use Rattle.span_feed.specs.declared.stay.Stay.TheVariants.{Changes, Away, Ready}
 
--- the job with which the task stays ready, if it does
+-- the cell of a task whose job is not there
+abbrev pub gone : TaskCell
+gone = record { doing = cells.away; job = 0; held = []; non_preemptive = false; raised = false }
+
+-- what a task goes on to show
+abbrev pub lasting : Stay → Option TaskCell
+lasting Changes = None
+lasting Away = Some gone
+lasting (Ready j) = Some (ready_cell j)
+
+-- the cell that lasts is what the task goes on to show, if that is known
 pub record TaskLane : Type 0 where
   pub track : TaskTrack
-  pub still : Option ReadyJob
+  pub lasts : Option TaskCell
 
 -- the last span, if there is one, lasts up to a tick
 abbrev pub last_to : {A : Type 0} → ℕ → List (Span A) → List (Span A)
@@ -23,14 +35,14 @@ LastIs x [] = ⊥
 LastIs x (s ∷ []) = s.value ≡ x
 LastIs x (s ∷ r ∷ ss) = LastIs x (r ∷ ss)
 
-abbrev pub EndsReady : Option ReadyJob → List (Span TaskCell) → Type 0
-EndsReady None ss = ⊤
-EndsReady (Some j) ss = LastIs (ready_cell j) ss
+abbrev pub EndsWith : Option TaskCell → List (Span TaskCell) → Type 0
+EndsWith None ss = ⊤
+EndsWith (Some c) ss = LastIs c ss
 
-abbrev pub spans_to : ℕ → Option ReadyJob → List (Span TaskCell) → List (Span TaskCell)
+abbrev pub spans_to : ℕ → Option TaskCell → List (Span TaskCell) → List (Span TaskCell)
 spans_to n None ss = ss
-spans_to n (Some j) ss = last_to n ss
+spans_to n (Some c) ss = last_to n ss
 
 -- the track, where so many ticks are over
 abbrev pub track_to : ℕ → TaskLane → TaskTrack
-track_to n l = record l.track { spans = spans_to n l.still l.track.spans }
+track_to n l = record l.track { spans = spans_to n l.lasts l.track.spans }

@@ -1,68 +1,41 @@
-//! The spans of a task over the ticks that are over, of which the last is left as it is while the task stays ready.
+//! The spans of a task over the ticks that are over, of which the last is left as it is while the task does the same.
 ghost use Rattle.std.specs.Prelude.{◌≡◌, [], List, None, OnOk, Some, map, slice_index_or, true};
 ghost use Rattle.rt_model.specs.Group.{Group};
-ghost use Rattle.trace_views.specs.Cells as cells;
-ghost use Rattle.chart_cells.specs.Cells.{cell_shown};
+ghost use Rattle.trace_views.specs.Cells.{TaskCell};
 ghost use Rattle.chart_rows.specs.ReadyJobs.{ready_cell};
 ghost use Rattle.chart_rows.specs.Rows.{TaskKept};
 ghost use Rattle.event_lines.specs.Shown.{task_span_shown, task_track_shown};
-ghost use Rattle.span_feed.specs.Begun.{IsHeld, IsLeft, IsRunOrReady};
-ghost use Rattle.span_feed.specs.Lane.{LastIs, last_to, spans_to, track_to};
+ghost use Rattle.span_feed.specs.Begun.{GoesOn, IsHeld, IsLeft, IsRunOrReady};
+ghost use Rattle.span_feed.specs.Lane.{EndsWith, LastIs, last_to, lasting, track_to};
 ghost use Rattle.span_feed.specs.Spanned.{task_more};
 
 use crate::spans::take_task_span;
-use chart_cells::{Cell, Doing};
+use crate::stay::{Stay, is_gone, is_known, stay_of};
+use chart_cells::Doing;
 use chart_rows::{ReadyJob, ReadyJobs, TaskFeed};
 use event_lines::{TaskSpan, TaskTrack};
 use rt_base::{NoMemory, TaskNo};
 use std::alloc::Global;
 use std::marker::Model;
 
-/// The spans of a task over the ticks that are over. While the task is known to stay ready, with the same job, its last span is left
-/// as it is: it lasts up to the newest of these ticks, whatever its end says.
+/// The spans of a task over the ticks that are over. While it is known what the task goes on to do, its last span is left as it is:
+/// it lasts up to the newest of these ticks, whatever its end says.
 #[derive(Drop)]
 pub(crate) struct TaskLane {
     track: TaskTrack,
-    still: Option<ReadyJob>,
+    stays: Stay,
 }
 
 impl Model for TaskLane {
     ghost use Rattle.event_lines.specs.Shown.{task_track_shown};
     ghost use Rattle.span_feed.specs.Lane as seen;
-    ghost use Rattle.span_feed.specs.Lane.{EndsReady};
+    ghost use Rattle.span_feed.specs.Lane.{EndsWith, lasting};
 
     ghost Value = { seen.TaskLane };
 
-    ghost view = { λ a. record { track = task_track_shown a.track; still = a.still } };
+    ghost view = { λ a. record { track = task_track_shown a.track; lasts = lasting a.stays } };
 
-    ghost invariant = { λ a. EndsReady a.still (task_track_shown a.track).spans };
-}
-
-fn same_job(one: ReadyJob, other: ReadyJob) -> bool
-    ensures { result ≡ true → one ≡ other }
-{
-    one.number == other.number && one.non_preemptive == other.non_preemptive
-}
-
-/// Whether this is the job that is known of a task.
-fn is_known(ready: &ReadyJobs, task: TaskNo, job: ReadyJob) -> bool
-    ensures { result ≡ true → slice_index_or ready.now task.0 None ≡ Some job }
-{
-    match ready.get(task) {
-        Some(known) => same_job(known, job),
-        None => false,
-    }
-}
-
-/// Whether a cell shows a task ready, without a semaphore and with this job.
-fn shows(cell: &Cell, job: ReadyJob) -> bool
-    ensures { result ≡ true → cell_shown cell.now ≡ ready_cell job }
-{
-    matches!(cell.doing, Doing::Ready)
-        && cell.job == job.number
-        && cell.held.is_empty()
-        && cell.non_preemptive == job.non_preemptive
-        && !cell.raised
+    ghost invariant = { λ a. EndsWith (lasting a.stays) (task_track_shown a.track).spans };
 }
 
 /// Ends the last span, if there is one, at a tick.
@@ -74,13 +47,14 @@ fn end_last(spans: &mut [TaskSpan], tick: u64)
     }
 }
 
-/// Whether the last span shows the task ready with this job.
-fn ends_with(spans: &[TaskSpan], job: ReadyJob) -> bool
-    ensures { result ≡ true → LastIs (ready_cell job) (map task_span_shown spans.now) }
+/// What the last span shows, if the task may go on so.
+fn end_of(spans: &[TaskSpan], known: Option<ReadyJob>) -> Stay
+    ensures ends { EndsWith (lasting result) (map task_span_shown spans.now) }
+    ensures known { (j : ReadyJob) → result ≡ Stay.Ready j → known ≡ Some j }
 {
     match spans.last() {
-        Some(last) => shows(&last.cell, job),
-        None => false,
+        Some(last) => stay_of(&last.cell, known),
+        None => Stay::Changes,
     }
 }
 
@@ -100,7 +74,7 @@ impl TaskLane {
     pub(crate) fn new(alloc: Global, task: TaskNo) -> TaskLane
         ensures { result ≡ record {
           track = record { task = task.0; spans = []; jobs = [] };
-          still = None;
+          lasts = None;
         } }
     {
         TaskLane {
@@ -109,45 +83,45 @@ impl TaskLane {
                 spans: Vec::new(alloc),
                 jobs: Vec::new(alloc),
             },
-            still: None,
+            stays: Stay::Changes,
         }
     }
 
-    /// Whether the task stays ready, with the job that is known of it, in the column of its row, which has ended.
+    /// Whether the task goes on as it did in the column of its row, which has ended.
     #[inline(always)]
     fn goes_on(&self, row: &TaskFeed, ready: &ReadyJobs) -> bool
-        ensures { result ≡ true → (j : ReadyJob) × (self.now.still ≡ Some j)
-            × (slice_index_or ready.now row.now.task None ≡ Some j)
-            × (row.now.kept.doing ≡ cells.ready) × LastIs (ready_cell j) self.now.track.spans }
+        ensures { result ≡ true → (c : TaskCell) × (self.now.lasts ≡ Some c)
+            × LastIs c self.now.track.spans
+            × GoesOn (slice_index_or ready.now row.now.task None) c row.now }
     {
-        match self.still {
-            Some(job) => {
+        match self.stays {
+            Stay::Changes => false,
+            Stay::Away => is_gone(&row.kept),
+            Stay::Ready(job) => {
                 is_known(ready, row.task, job) && matches!(row.kept.doing, Doing::Ready)
             }
-            None => false,
         }
     }
 
-    /// Where the task does not stay ready any more, its last span ends where the ticks that are over do.
+    /// Where the task does not go on as it did, its last span ends where the ticks that are over do.
     fn settle(&mut self, over: u64)
-        ensures { self.new ≡ record { track = track_to over self.old; still = None } }
+        ensures { self.new ≡ record { track = track_to over self.old; lasts = None } }
     {
-        if self.still.is_some() {
-            self.still = None;
+        if !matches!(self.stays, Stay::Changes) {
+            self.stays = Stay::Changes;
             end_last(self.track.spans.as_mut_slice(), over);
         }
     }
 
-    /// Leaves the cell of the task in its row, which is begun, where it is known to be ready and the last span shows it so.
+    /// Finds what the task goes on to do, from what is known of it and from its last span. The cell of a ready job is left in its row,
+    /// which is begun.
     fn hold(&mut self, row: &mut TaskFeed, known: Option<ReadyJob>)
         ensures track { self.new.track ≡ self.old.track }
-        ensures held { IsHeld known self.old.still self.new.still row.old row.new }
+        ensures held { IsHeld known None self.new.lasts row.old row.new }
     {
-        if let Some(job) = known {
-            if ends_with(self.track.spans.as_slice(), job) {
-                self.still = known;
-                leave(row, job);
-            }
+        self.stays = end_of(self.track.spans.as_slice(), known);
+        if let Stay::Ready(job) = self.stays {
+            leave(row, job);
         }
     }
 
@@ -172,7 +146,7 @@ impl TaskLane {
     }
 
     /// Takes what is kept of the column of a row, which has ended and stands for the ticks from one on up to another; the next one is
-    /// begun. While the task stays ready nothing is to be done.
+    /// begun. While the task goes on as it did, nothing is to be done.
     #[inline(always)]
     pub(crate) fn take(
         &mut self,

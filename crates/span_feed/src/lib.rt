@@ -7,6 +7,7 @@ mod lanes;
 mod opening;
 mod same;
 mod spans;
+mod stay;
 mod taking;
 
 pub use feed::{Members, SpanFeed};

@@ -1,25 +1,29 @@
-use Rattle.std.proofs.Common.{◌≡◌, ◌∙◌, sym, ap, subst}
+use Rattle.std.proofs.Common.{◌≡◌, ◌∙◌, false, sym, ap, subst}
 use Rattle.std.specs.Prelude.{None, OnOk, Option, slice_index_or}
 use Rattle.rt_model.specs.Group.{Group}
-use Rattle.chart_rows.specs.ReadyJobs.{ready_cell}
 use Rattle.chart_rows.specs.Rows.{TaskKept}
 use Rattle.chart_rows.specs.declared.ready_jobs.ReadyJob.{ReadyJob}
 use Rattle.event_texts.specs.TaskSpans as task_texts
 use Rattle.span_feed.specs.Begun.{IsLeft}
 use Rattle.span_feed.specs.Extended.{extended}
 use Rattle.span_feed.specs.Lane.{TaskLane, spans_to}
-use Rattle.span_feed.proofs.LaneLaws.{last-goes-on, ready-unrun}
+use Rattle.span_feed.proofs.LaneLaws.{goes-on-left, goes-on-shown, last-goes-on}
 use Rattle.span_feed.proofs.Sameness.{task_cells}
 use Rattle.span_feed.proofs.lane.TaskLane.take.Goals as goal
+
+pub returns-then-goes_on-clause-row : goal.returns-then-goes_on-clause-row
+returns-then-goes_on-clause-row c = λ g.
+    let h = c.goes_on.ensures c.if-goes_on.true in
+    let left = goes-on-left g _ h.0 c.args.row.now c.requires h.3 in
+    subst (λ (k : TaskKept). IsLeft g (slice_index_or c.args.ready.now c.args.row.now.task None) c.args.row.now (record k { end = false })) (sym c.row.view_is) left
 
 pub returns-then-goes_on-clause-track : goal.returns-then-goes_on-clause-track
 returns-then-goes_on-clause-track c =
     let l : TaskLane = c.args.self.now in
     let h = c.goes_on.ensures c.if-goes_on.true in
-    let run = c.requires h.0 h.2 in
-    let kept : c.args.row.now.kept ≡ ready_cell h.0 = ready-unrun run.0 h.0 c.args.row.now.kept run.1 h.3 in
+    let kept = goes-on-shown _ h.0 c.args.row.now c.requires h.3 in
     let spans =
-    ap (λ o. spans_to c.args.to o l.track.spans) h.1 ∙ sym (last-goes-on task_texts.same_cell c.args.from c.args.to (ready_cell h.0) task_cells l.track.spans h.4)
+    ap (λ o. spans_to c.args.to o l.track.spans) h.1 ∙ sym (last-goes-on task_texts.same_cell c.args.from c.args.to h.0 task_cells l.track.spans h.2)
     ∙ (λ i. extended task_texts.same_cell c.args.from c.args.to (sym kept i) (spans_to c.args.from (sym h.1 i) l.track.spans)) in
     λ i. record l.track { spans = spans i }
 

@@ -14,4 +14,4 @@ returns-clause-track c =
     let made =
     c.hold.ensures.track ∙ (λ i. record (task_track_shown c.self.inside.track) { spans = c.in_ok-take_task_span.ensures.spans i })
     ∙ ap (λ (l : TaskLane). task_more c.args.from c.args.to c.args.row.now l.track) settled in
-    held-track c.args.from c.args.to c.args.known _ c.args.row.now (track_to c.args.from c.args.self.now) _ c.hold.new.self c.hold.new.row made (ap (λ (l : TaskLane). l.still) settled) c.hold.ensures.held
+    held-track c.args.from c.args.to c.args.known c.args.row.now (track_to c.args.from c.args.self.now) _ c.hold.new.self c.hold.new.row made c.hold.ensures.held
