@@ -60,7 +60,7 @@ fn whole_text_of(
     Ok(Some(text))
 }
 
-/// The same in pieces.
+/// The same, as one piece.
 fn text_of(
     alloc: Global,
     view: View,
