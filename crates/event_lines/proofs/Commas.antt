@@ -51,8 +51,8 @@ last-popped (Some a) old new cut b taken is =
 abbrev pub LosesComma : List ℕ → List ℕ → Type 0
 LosesComma old new = (cut : List ℕ) (b : ℕ) → old ≡ cut ++ b ∷ [] → new ≡ (if b == 44 then cut else old)
 
--- Behind a head that ends in a bracket and a line feed: without the last line feed, the comma behind it if it is there, and with a line
--- feed again, events are lines.
+-- Events behind a head that ends in a bracket and a line feed: without the last line feed, without the comma that may stand before it, and
+-- with a line feed again, they are lines.
 pub comma-dropped : (start : List ℕ) (es : List Piece) (o : Option ℕ) (old rest cut new : List ℕ) → old ≡ (start ++ 91 ∷ 10 ∷ []) ++ with_commas es
     → IsPopped o old rest → LosesComma rest cut → new ≡ cut ++ 10 ∷ [] → new ≡ (start ++ 91 ∷ 10 ∷ []) ++ event_lines es
 comma-dropped start [] o old rest cut new is taken loses h =
@@ -62,6 +62,8 @@ comma-dropped start [] o old rest cut new is taken loses h =
 comma-dropped start (e ∷ es) o old rest cut new is taken loses h =
     let head : List ℕ = start ++ 91 ∷ 10 ∷ [] in
     let front : List ℕ = head ++ between (e ∷ es) in
-    let whole : old ≡ front ++ 44 ∷ 10 ∷ [] = is ∙ ap (λ xs. head ++ xs) (with_commas-cons e es) ∙ sym (append_assoc head (between (e ∷ es)) (44 ∷ 10 ∷ [])) in
+    let whole : old ≡ front ++ 44 ∷ 10 ∷ [] =
+    is ∙ ap (λ xs. head ++ xs) (with_commas-cons e es) ∙ sym (append_assoc head (between (e ∷ es)) (44 ∷ 10 ∷ [])) in
     let rest_is = (last-popped o old rest (front ++ 44 ∷ []) 10 taken (whole ∙ sym (append_assoc front (44 ∷ []) (10 ∷ [])))).1 in
-    h ∙ ap (λ xs. xs ++ 10 ∷ []) (loses front 44 rest_is) ∙ append_assoc head (between (e ∷ es)) (10 ∷ []) ∙ ap (λ xs. head ++ xs) (sym (event_lines-cons e es))
+    h ∙ ap (λ xs. xs ++ 10 ∷ []) (loses front 44 rest_is)
+    ∙ append_assoc head (between (e ∷ es)) (10 ∷ []) ∙ ap (λ xs. head ++ xs) (sym (event_lines-cons e es))

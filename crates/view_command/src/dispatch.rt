@@ -37,6 +37,10 @@ use view_events::check_tracks;
 use view_tables::table_text;
 use view_why::why_text;
 
+/// The C library unmaps a long block that is freed, and the next ones are of pages that are touched anew, until it has freed a
+/// longer one: from then on it keeps what is freed, as the trace. This many bytes are taken for that, freed, and never touched.
+const KEPT_WHERE_FREED: usize = 31 << 20;
+
 /// The text of a view of a setup and the histories of its groups, but that of its trace events; none where there is no such group
 /// or entry.
 fn whole_text_of(
@@ -60,7 +64,7 @@ fn whole_text_of(
     Ok(Some(text))
 }
 
-/// The same in pieces.
+/// The same, as one piece.
 fn text_of(
     alloc: Global,
     view: View,
@@ -202,6 +206,7 @@ fn write_view<T: TraceTool, S: Source, K: Sink>(
         (writing K.held K.faults out.old out.new) result }
     ensures not_usage { result ≢ ViewEnd.Ended Status.Usage }
 {
+    drop(Vec::<u8>::with_capacity(alloc, KEPT_WHERE_FREED));
     let (bytes, head) = match read_trace_input(alloc, src) {
         Ok(input) => input,
         Err(status) => return ViewEnd::Ended(status),

@@ -14,8 +14,10 @@ unfolding tracks_text
 returns c =
     let events : List Piece = flat_map (tracks_events (some_group c.args.parts.now)) (map group_tracks_shown c.args.groups.now) in
     let head = codes "{\"displayTimeUnit\":\"ms\",\"traceEvents\":[\n" in
-    let begun = last_put (whole_text c.text.inside.whole.items) c.text.inside.last.items c.put.new.text.items [] head (c.text.view_is ∙ c.in_ok-text.ensures) c.in_ok-put.ensures in
+    let first = c.text.inside in
+    let begun = last_put (whole_text first.whole.items) first.last.items c.put.new.text.items [] head (c.text.view_is ∙ c.in_ok-text.ensures) c.in_ok-put.ensures in
     let put = c.in_ok-put_groups.ensures ∙ ap (λ xs. xs ++ with_commas events) begun in
     let lines : c.drop_last_comma.new.text ≡ head ++ event_lines events = c.in_ok-drop_last_comma.ensures events put in
-    let ended = last_put (whole_text c.text-3.inside.whole.items) c.text-3.inside.last.items c.put-2.new.text.items c.drop_last_comma.new.text (codes "]}\n") c.text-3.view_is c.in_ok-put-2.ensures in
+    let most = c.text-3.inside in
+    let ended = last_put (whole_text most.whole.items) most.last.items c.put-2.new.text.items _ (codes "]}\n") c.text-3.view_is c.in_ok-put-2.ensures in
     c.in_ok-into_pieces.ensures ∙ ended ∙ ap (λ xs. xs ++ codes "]}\n") lines ∙ append_assoc head (event_lines events) (codes "]}\n")

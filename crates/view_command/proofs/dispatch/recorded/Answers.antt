@@ -1,8 +1,6 @@
-use Rattle.std.proofs.Common.{◌≡◌, ℕ, List, map, sym, ap, ◌∙◌, subst}
+use Rattle.std.proofs.Common.{ℕ, List, map, sym, ap, ◌∙◌, subst}
 use Rattle.std.specs.Prelude.{Result}
 use Rattle.event_lines.specs.Shown.{group_tracks_shown}
-use Rattle.event_lines.specs.TrackLaws.{tracks_of_groups}
-use Rattle.chart_texts.specs.Charts.{pasts_from}
 use Rattle.view_events.specs.TextTracks.{HasTracks}
 use Rattle.view_command.specs.inside.Viewing.{IsViewed, Pieces}
 use Rattle.view_command.specs.declared.ending.ViewEnd.{ViewEnd}

@@ -1,4 +1,4 @@
-use Rattle.std.proofs.Common.{◌≡◌, ℕ, List, map, sym, ap, ◌∙◌, subst}
+use Rattle.std.proofs.Common.{ℕ, List, sym, ap, ◌∙◌, subst}
 use Rattle.std.specs.Prelude.{Result}
 use Rattle.trace_text.specs.Groups.{AreGroupsOf, histories}
 use Rattle.trace_check.specs.Groups.{HasGroups}
