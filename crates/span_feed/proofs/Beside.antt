@@ -13,9 +13,6 @@ module _ {A B : Type 0} (P : A → B → A → B → Type 0) where
       (i : ℕ) (d : A) (e : B) → i < length xs → i < length ys
       → (i < n → P (get_or xs i d) (get_or ys i e) (get_or xs' i d) (get_or ys' i e)) × (n ≤ i → (get_or xs' i d ≡ get_or xs i d) × (get_or ys' i e ≡ get_or ys i e))
 
-  pub taken-none : (xs xs' : List A) (ys ys' : List B) → xs' ≡ xs → ys' ≡ ys → AreTaken 0 xs ys xs' ys'
-  taken-none xs xs' ys ys' same_x same_y i d e low below = (λ none. absurd (omega arith), λ _. (ap (λ zs. get_or zs i d) same_x, ap (λ zs. get_or zs i e) same_y))
-
   module _ (n : ℕ) (xs xs' : List A) (ys ys' : List B) (x x' : A) (y y' : B) (low : n < length xs) (below : n < length ys) (long_x : length xs' ≡ length xs) (long_y : length ys' ≡ length ys)
       (before : AreTaken n xs ys xs' ys') (is_x : x ≡ get_or xs' n x) (is_y : y ≡ get_or ys' n y) where
     -- the next pair is as it was

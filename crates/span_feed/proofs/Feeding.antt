@@ -1,5 +1,5 @@
 -- What each call makes of the spans of a group, tick by tick.
-use Rattle.std.proofs.Common.{◌≡◌, ◌∙◌, ℕ, suc, ◌+◌, ◌-◌, ◌<◌, ◌≤◌, max, List, [], ◌∷◌, ◌++◌, length, map, refl, sym, ap, arith, append-nil}
+use Rattle.std.proofs.Common.{◌≡◌, ◌∙◌, ℕ, suc, ◌+◌, ◌-◌, ◌<◌, ◌≤◌, max, List, [], ◌∷◌, ◌++◌, length, map, refl, sym, ap, arith}
 use Rattle.std.specs.Prelude.{replicate}
 use Rattle.std.proofs.lemmas.Simd.{map-map}
 use Rattle.rt_rules.specs.Numbers.{numbers_from}
@@ -40,11 +40,6 @@ module _ (g : Group) (tracks : GroupTracks) where
   pub act-taken : (over : List Strip) (going : Strip) (m : Moment) (rows new : RowsKept) → HasSpans g over going rows tracks → new ≡ rows_acted g m rows → HasSpans g over (done m going) new tracks
   act-taken over going m rows new has made = record { rows_are = made ∙ ap (rows_acted g m) has.rows_are ∙ acted-rows g [] going m; tracks_are = has.tracks_are }
 
-  -- other ticks that are the same
-  pub spans-same : (over over' : List Strip) (going going' : Strip) (rows : RowsKept) → over ≡ over' → going ≡ going' → HasSpans g over going rows tracks → HasSpans g over' going' rows tracks
-  spans-same over over' going going' rows is_over is_going has =
-      record { rows_are = has.rows_are ∙ ap (rows_of g []) is_going; tracks_are = has.tracks_are ∙ ap (spanned g) is_over }
-
 -- the rows are up to the newest state, and so they are once an act is taken; a move of the clock that is not later leaves them
 module _ (g : Group) (past : Past) (over : List Strip) (rows : RowsKept) (tracks : GroupTracks) where
   pub acted-up-to : (m : Moment) → HasSpans g over (done m (tick_strip past (now past))) rows tracks → AreUpTo g past rows
@@ -66,9 +61,6 @@ opened g rows new tracks rows_are made group tasks cpus resvs = record {
 -- one tick
 pub one-tick : (n : ℕ) (over : List Strip) (going : Strip) → over ++ replicate (n + 1 - n) going ≡ over ++ going ∷ []
 one-tick n over going = let one : n + 1 - n ≡ 1 = omega arith in ap (λ k. over ++ replicate k going) one
-
-pub no-ticks : (from to : ℕ) (over : List Strip) (x : Strip) → to ≤ from → over ≡ over ++ replicate (to - from) x
-no-ticks from to over x h = let none : to - from ≡ 0 = omega arith in sym (ap (λ k. over ++ replicate k x) none ∙ append-nil over)
 
 -- ---- the clock is to be moved
 
