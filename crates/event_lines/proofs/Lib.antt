@@ -4,4 +4,5 @@ mod Pieces
 mod Spans
 mod CpuSpans
 mod Commas
+mod Ticks
 pub mod Told

@@ -22,14 +22,17 @@ fn put_task(
     text: &mut Pieces,
     set: &Parts,
     process: u64,
-    track: &TaskTrack,
+    track: TaskTrack,
 ) -> Result<(), AllocError>
     ensures { OnOk result (text.new ≡ text.old
-        ++ with_commas (task_events (some_group set.now) process (task_track_shown track.now))) }
+        ++ with_commas (task_events (some_group set.now) process (task_track_shown track))) }
 {
-    let thread = Thread::new(alloc, process, u64::from(track.task.0))?;
-    put_task_spans(alloc, text, set, &thread, &track.spans)?;
-    put_job_marks(alloc, text, &thread, &track.jobs)
+    let TaskTrack { task, spans, jobs } = track;
+    let thread = Thread::new(alloc, process, u64::from(task.0))?;
+    put_task_spans(alloc, text, set, &thread, &spans)?;
+    // The text of the jobs comes to lie where the spans lay.
+    drop(spans);
+    put_job_marks(alloc, text, &thread, &jobs)
 }
 
 #[tactic(auto, using(crate::proofs::Joins::loops))]
@@ -38,11 +41,11 @@ fn put_tasks(
     text: &mut Pieces,
     set: &Parts,
     process: u64,
-    tracks: &[TaskTrack],
+    tracks: Vec<TaskTrack>,
 ) -> Result<(), AllocError>
     ensures { OnOk result (text.new ≡ text.old
         ++ with_commas (flat_map (task_events (some_group set.now) process)
-        (map task_track_shown tracks.now))) }
+        (map task_track_shown tracks.items))) }
 {
     for track in tracks {
         put_task(alloc, text, set, process, track)?;
@@ -56,11 +59,11 @@ fn put_cpus(
     text: &mut Pieces,
     set: &Parts,
     process: u64,
-    tracks: &[CpuTrack],
+    tracks: Vec<CpuTrack>,
 ) -> Result<(), AllocError>
     ensures { OnOk result (text.new ≡ text.old
         ++ with_commas (flat_map (cpu_events (some_group set.now) process)
-        (map cpu_track_shown tracks.now))) }
+        (map cpu_track_shown tracks.items))) }
 {
     for track in tracks {
         put_cpu_spans(alloc, text, set, process, track.cpu, &track.spans)?;
@@ -74,11 +77,11 @@ fn put_resvs(
     text: &mut Pieces,
     set: &Parts,
     process: u64,
-    tracks: &[ResvTrack],
+    tracks: Vec<ResvTrack>,
 ) -> Result<(), AllocError>
     ensures { OnOk result (text.new ≡ text.old
         ++ with_commas (flat_map (resv_events (some_group set.now) process)
-        (map resv_track_shown tracks.now))) }
+        (map resv_track_shown tracks.items))) }
 {
     for track in tracks {
         put_budget_spans(alloc, text, set, process, track.resv, &track.spans)?;
@@ -91,18 +94,23 @@ fn put_group(
     alloc: Global,
     text: &mut Pieces,
     set: &Parts,
-    tracks: &GroupTracks,
+    tracks: GroupTracks,
 ) -> Result<(), AllocError>
     ensures { OnOk result (text.new ≡ text.old
-        ++ with_commas (tracks_events (some_group set.now) (group_tracks_shown tracks.now))) }
+        ++ with_commas (tracks_events (some_group set.now) (group_tracks_shown tracks))) }
 {
-    let group = tracks.group;
-    put_task_names(&mut text.last, set, group, &tracks.tasks)?;
-    put_cpu_names(&mut text.last, group, &tracks.cpus)?;
-    put_resv_names(&mut text.last, group, &tracks.resvs)?;
-    put_tasks(alloc, text, set, task_process(group), &tracks.tasks)?;
-    put_cpus(alloc, text, set, cpu_process(group), &tracks.cpus)?;
-    put_resvs(alloc, text, set, resv_process(group), &tracks.resvs)
+    let GroupTracks {
+        group,
+        tasks,
+        cpus,
+        resvs,
+    } = tracks;
+    put_task_names(&mut text.last, set, group, &tasks)?;
+    put_cpu_names(&mut text.last, group, &cpus)?;
+    put_resv_names(&mut text.last, group, &resvs)?;
+    put_tasks(alloc, text, set, task_process(group), tasks)?;
+    put_cpus(alloc, text, set, cpu_process(group), cpus)?;
+    put_resvs(alloc, text, set, resv_process(group), resvs)
 }
 
 /// The events of groups, a comma behind each.
@@ -111,11 +119,11 @@ pub(crate) fn put_groups(
     alloc: Global,
     text: &mut Pieces,
     set: &Parts,
-    groups: &[GroupTracks],
+    groups: Vec<GroupTracks>,
 ) -> Result<(), AllocError>
     ensures { OnOk result (text.new ≡ text.old
         ++ with_commas (flat_map (tracks_events (some_group set.now))
-        (map group_tracks_shown groups.now))) }
+        (map group_tracks_shown groups.items))) }
 {
     for tracks in groups {
         put_group(alloc, text, set, tracks)?;

@@ -7,11 +7,12 @@ ghost use Rattle.event_lines.specs.inside.Openings.{instant_words};
 ghost use Rattle.event_lines.specs.Shown.{due_shown, job_marks_shown};
 ghost use Rattle.event_lines.specs.TrackEvents.{deadline_events, end_events, job_events, release_events};
 
-use crate::put::{put, put_microseconds, put_number};
+use crate::put::{put, put_microseconds};
 use crate::records::END;
 use crate::text_pieces::Pieces;
 use crate::threads::Thread;
 use crate::tracks::{Due, JobMarks};
+use decimals::Digits;
 use std::alloc::{AllocError, Global};
 
 const RELEASE: &[u8] = b",\"s\":\"t\",\"name\":\"release\",\"args\":{\"job\":";
@@ -28,17 +29,17 @@ fn put_instant(
     thread: &Thread,
     tick: u128,
     words: &[u8],
-    job: u64,
+    job: &Digits,
 ) -> Result<(), AllocError>
     requires { tick ≤ 2 ^ 64 }
     ensures { OnOk result ((name : Piece) → words.now ≡ instant_words name → text.new.items
         ≡ text.old.items ++ with_comma
-        (instant_event thread.now.process thread.now.number tick name job)) }
+        (instant_event thread.now.process thread.now.number tick name job.now)) }
 {
     thread.open_instant(text)?;
     put_microseconds(text, tick)?;
     put(text, words)?;
-    put_number(text, job)?;
+    job.put(text)?;
     put(text, END)
 }
 
@@ -47,11 +48,11 @@ fn put_instant(
 fn put_release(
     text: &mut Vec<u8>,
     thread: &Thread,
-    job: u64,
+    job: &Digits,
     release: Option<u64>,
 ) -> Result<(), AllocError>
     ensures { OnOk result (text.new.items ≡ text.old.items
-        ++ with_commas (release_events thread.now.process thread.now.number job release)) }
+        ++ with_commas (release_events thread.now.process thread.now.number job.now release)) }
 {
     let Some(tick) = release else {
         return Ok(());
@@ -70,11 +71,11 @@ fn deadline_words(missed: bool) -> &'static [u8]
 fn put_deadline(
     text: &mut Vec<u8>,
     thread: &Thread,
-    job: u64,
+    job: &Digits,
     deadline: Option<Due>,
 ) -> Result<(), AllocError>
     ensures { OnOk result (text.new.items ≡ text.old.items
-        ++ with_commas (deadline_events thread.now.process thread.now.number job
+        ++ with_commas (deadline_events thread.now.process thread.now.number job.now
         (option_map due_shown deadline))) }
 {
     let Some(due) = deadline else {
@@ -94,11 +95,11 @@ fn put_deadline(
 fn put_end(
     text: &mut Vec<u8>,
     thread: &Thread,
-    job: u64,
+    job: &Digits,
     end: Option<u64>,
 ) -> Result<(), AllocError>
     ensures { OnOk result (text.new.items ≡ text.old.items
-        ++ with_commas (end_events thread.now.process thread.now.number job end)) }
+        ++ with_commas (end_events thread.now.process thread.now.number job.now end)) }
 {
     let Some(tick) = end else {
         return Ok(());
@@ -107,12 +108,17 @@ fn put_end(
 }
 
 #[tactic(auto, using(crate::proofs::Joins::loops), unfolding(crate::specs::TrackEvents::job_events))]
-fn put_marks(text: &mut Vec<u8>, thread: &Thread, marks: &JobMarks) -> Result<(), AllocError>
+fn put_marks(
+    text: &mut Vec<u8>,
+    thread: &Thread,
+    job: &Digits,
+    marks: &JobMarks,
+) -> Result<(), AllocError>
+    requires { job.now ≡ marks.now.job }
     ensures { OnOk result (text.new.items ≡ text.old.items
         ++ with_commas
         (job_events thread.now.process thread.now.number (job_marks_shown marks.now))) }
 {
-    let job = u64::from(marks.job);
     put_release(text, thread, job, marks.release)?;
     put_deadline(text, thread, job, marks.deadline)?;
     put_end(text, thread, job, marks.end)
@@ -130,8 +136,10 @@ pub(crate) fn put_job_marks(
         ++ with_commas (flat_map (job_events thread.now.process thread.now.number)
         (map job_marks_shown jobs.now))) }
 {
+    let mut job = Digits::zero(alloc)?;
     for marks in jobs {
-        put_marks(&mut text.last, thread, marks)?;
+        job.set(u64::from(marks.job));
+        put_marks(&mut text.last, thread, &job, marks)?;
         text.settle(alloc)?;
     }
     Ok(())

@@ -16,6 +16,7 @@ use crate::text_pieces::Pieces;
 use crate::threads::Thread;
 use crate::tracks::TaskSpan;
 use chart_cells::{Cell, Doing};
+use decimals::Digits;
 use rt_base::{CpuNo, SemNo};
 use rt_task::{Parts, Sem};
 use std::alloc::{AllocError, Global};
@@ -137,12 +138,18 @@ fn put_cell_rest(text: &mut Vec<u8>, set: &Parts, cell: &Cell) -> Result<(), All
 
 /// The arguments of a span of a task, and the end of the event.
 #[tactic(auto, using(crate::proofs::Joins::joins))]
-fn put_arguments(text: &mut Vec<u8>, set: &Parts, cell: &Cell) -> Result<(), AllocError>
+fn put_arguments(
+    text: &mut Vec<u8>,
+    set: &Parts,
+    job: &Digits,
+    cell: &Cell,
+) -> Result<(), AllocError>
+    requires { job.now ≡ cell.now.job }
     ensures { OnOk result (text.new.items ≡ text.old.items ++ (codes "\",\"args\":{\"job\":"
         ++ (decimal cell.now.job ++ cell_rest (some_group set.now) (cell_shown cell.now)))) }
 {
     put(text, b"\",\"args\":{\"job\":")?;
-    put_number(text, cell.job)?;
+    job.put(text)?;
     put_cell_rest(text, set, cell)
 }
 
@@ -151,8 +158,10 @@ fn put_there(
     text: &mut Vec<u8>,
     set: &Parts,
     thread: &Thread,
+    job: &Digits,
     span: &TaskSpan,
 ) -> Result<(), AllocError>
+    requires { job.now ≡ span.now.cell.job }
     ensures { let g = some_group set.now in let cell = cell_shown span.now.cell in
         OnOk result (text.new.items ≡ text.old.items ++ with_comma
         (span_event thread.now.process thread.now.number span.now.from span.now.to
@@ -162,7 +171,7 @@ fn put_there(
     open_span(text, thread, span.from, span.to)?;
     put(text, head_of(&span.cell.doing))?;
     put_object(text, set, &span.cell.doing)?;
-    put_arguments(text, set, &span.cell)
+    put_arguments(text, set, job, &span.cell)
 }
 
 /// A span of a task, where its job is there.
@@ -170,15 +179,17 @@ fn put_span(
     text: &mut Vec<u8>,
     set: &Parts,
     thread: &Thread,
+    job: &Digits,
     span: &TaskSpan,
 ) -> Result<(), AllocError>
+    requires { job.now ≡ span.now.cell.job }
     ensures { OnOk result (text.new.items ≡ text.old.items ++ with_commas
         (task_span_events (some_group set.now) thread.now.process thread.now.number
         (task_span_shown span.now))) }
 {
     match &span.cell.doing {
         Doing::Away => Ok(()),
-        _ => put_there(text, set, thread, span),
+        _ => put_there(text, set, thread, job, span),
     }
 }
 
@@ -196,8 +207,10 @@ pub(crate) fn put_task_spans(
         (task_span_events (some_group set.now) thread.now.process thread.now.number)
         (map task_span_shown spans.now))) }
 {
+    let mut job = Digits::zero(alloc)?;
     for span in spans {
-        put_span(&mut text.last, set, thread, span)?;
+        job.set(span.cell.job);
+        put_span(&mut text.last, set, thread, &job, span)?;
         text.settle(alloc)?;
     }
     Ok(())

@@ -6,17 +6,19 @@ use std::alloc::{AllocError, Global};
 use std::marker::Model;
 use std::mem;
 
-/// A piece has at least as many bytes, but the last.
+/// A piece has at least as many bytes, but the first and the last.
 const PIECE: usize = 65_536;
 
-/// The room of a piece: what is put before it is found to be whole mostly fits.
-const ROOM: usize = PIECE + 4096;
+/// The room of a piece for what it has beyond the bytes that make it whole: an event mostly fits.
+const REST: usize = 4096;
 
 /// A text in pieces, so that it needs no block of memory that holds all of it. What is put at the end of `last` is put at its end.
 #[derive(Drop)]
 pub(crate) struct Pieces {
     whole: Vec<Vec<u8>>,
     pub(crate) last: Vec<u8>,
+    /// With so many bytes the last piece is whole.
+    enough: usize,
 }
 
 impl Model for Pieces {
@@ -29,15 +31,18 @@ impl Model for Pieces {
 }
 
 impl Pieces {
-    /// The text that has no bytes.
-    pub(crate) fn new(alloc: Global) -> Result<Pieces, AllocError>
-        ensures { IfOk result (λ text. text ≡ []) }
+    /// The text that has no bytes. Its first piece comes to lie where the bytes of `room` lie, which are let go.
+    pub(crate) fn within(alloc: Global, room: Vec<u8>) -> Pieces
+        ensures { result ≡ [] }
     {
-        let last = Vec::with_capacity(alloc, ROOM)?;
-        Ok(Pieces {
+        let enough = room.len().saturating_sub(REST);
+        let mut last = room;
+        last.clear();
+        Pieces {
             whole: Vec::new(alloc),
             last,
-        })
+            enough,
+        }
     }
 
     /// Another piece begins.
@@ -45,8 +50,9 @@ impl Pieces {
     fn begin_piece(&mut self, alloc: Global) -> Result<(), AllocError>
         ensures { OnOk result (self.new ≡ self.old) }
     {
-        let next = Vec::with_capacity(alloc, ROOM)?;
+        let next = Vec::with_capacity(alloc, PIECE + REST)?;
         self.whole.push(mem::replace(&mut self.last, next))?;
+        self.enough = PIECE;
         Ok(())
     }
 
@@ -55,7 +61,7 @@ impl Pieces {
     pub(crate) fn settle(&mut self, alloc: Global) -> Result<(), AllocError>
         ensures { OnOk result (self.new ≡ self.old) }
     {
-        if self.last.len() >= PIECE {
+        if self.last.len() >= self.enough {
             self.begin_piece(alloc)?;
         }
         Ok(())
@@ -76,7 +82,11 @@ impl Pieces {
     pub(crate) fn into_pieces(self) -> Result<Vec<Vec<u8>>, AllocError>
         ensures { IfOk result (λ pieces. whole_text pieces.items ≡ self) }
     {
-        let Pieces { mut whole, last } = self;
+        let Pieces {
+            mut whole,
+            last,
+            ..
+        } = self;
         whole.push(last)?;
         Ok(whole)
     }

@@ -41,18 +41,20 @@ fn drop_last_comma(text: &mut Pieces) -> Result<(), AllocError>
 
 /// The text of the trace events that the groups of a set tell, as JSON: of each group the names of its processes and threads, and
 /// what its tasks, processors and reservations do. A number that stands for nothing in the set has the empty name. Memory is taken
-/// for the text, and for what the events of one thread begin with.
+/// for the text, and for what the events of one thread begin with and the number of its job.
 ///
-/// The text comes in pieces of some 64 KiB.
+/// The text comes in pieces: the first in the memory of `room`, whose bytes are let go, and then pieces of some 64 KiB. What a task, a
+/// processor or a reservation does is let go once its text is made.
 pub fn event_text(
     alloc: Global,
     parts: &Parts,
-    groups: &[GroupTracks],
+    groups: Vec<GroupTracks>,
+    room: Vec<u8>,
 ) -> Result<Vec<Vec<u8>>, NoMemory>
     ensures { IfOk result (λ v. whole_text v.items
-        ≡ tracks_text parts.now (map group_tracks_shown groups.now)) }
+        ≡ tracks_text parts.now (map group_tracks_shown groups.items)) }
 {
-    let mut text = Pieces::new(alloc)?;
+    let mut text = Pieces::within(alloc, room);
     put(&mut text.last, HEAD)?;
     put_groups(alloc, &mut text, parts, groups)?;
     drop_last_comma(&mut text)?;

@@ -128,17 +128,18 @@ fn replayed<T: TraceTool>(
     }
 }
 
-/// The text of the trace events that these tracks tell.
+/// The text of the trace events that these tracks tell. It begins in the memory of `room`.
 fn text_of_tracks(
     alloc: Global,
     setup: &Setup,
-    tracks: &[GroupTracks],
+    tracks: Vec<GroupTracks>,
+    room: Vec<u8>,
 ) -> Result<Option<Vec<Vec<u8>>>, NoMemory>
     ensures { IfOk result (λ o. (hs : List (List Entry))
-        → map group_tracks_shown tracks.now ≡ tracks_of_groups (pasts_from setup.now 0 hs)
+        → map group_tracks_shown tracks.items ≡ tracks_of_groups (pasts_from setup.now 0 hs)
         → IsTextOf View.Events setup.now hs o) }
 {
-    let text = event_text(alloc, setup.parts(), tracks)?;
+    let text = event_text(alloc, setup.parts(), tracks, room)?;
     Ok(Some(text))
 }
 
@@ -158,8 +159,7 @@ fn recorded<T: TraceTool>(
     match check_tracks(alloc, bytes.as_slice(), head, bus) {
         Ok((Verdict::Valid(_), tracks)) => {
             // The text comes to lie where the trace lay.
-            drop(bytes);
-            there(text_of_tracks(alloc, &head.setup, tracks.as_slice()))
+            there(text_of_tracks(alloc, &head.setup, tracks, bytes))
         }
         Ok((Verdict::Invalid(line), _)) => wrong(line),
         Err(_) => Err(ViewEnd::Ended(Status::NoMemory)),

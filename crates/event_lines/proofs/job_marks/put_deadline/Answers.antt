@@ -16,5 +16,5 @@ returns c =
     on_ok_weaker c.put_instant.result (λ last.
     let text = c.args.text.now.items in
     let name = deadline_name c.in-Some.due.missed in
-    alone text _ _ (last name c.deadline_words.ensures ∙ ap (λ tick. text ++ with_comma (instant_event c.args.thread.now.process c.args.thread.now.number (tick + 1) name c.args.job)) c.from.ensures)
-    ∙ ap (λ (o : Option Due). text ++ with_commas (deadline_events c.args.thread.now.process c.args.thread.now.number c.args.job (option_map due_shown o))) (sym c.in-Some.is)) c.put_instant.ensures
+    alone text _ _ (last name c.deadline_words.ensures ∙ ap (λ tick. text ++ with_comma (instant_event c.args.thread.now.process c.args.thread.now.number (tick + 1) name c.args.job.now)) c.from.ensures)
+    ∙ ap (λ (o : Option Due). text ++ with_commas (deadline_events c.args.thread.now.process c.args.thread.now.number c.args.job.now (option_map due_shown o))) (sym c.in-Some.is)) c.put_instant.ensures

@@ -12,5 +12,5 @@ unfolding end_events
 returns c =
     on_ok_weaker c.put_instant.result (λ last.
     let text = c.args.text.now.items in
-    alone text _ _ (last (codes "end") refl ∙ ap (λ tick. text ++ with_comma (instant_event c.args.thread.now.process c.args.thread.now.number (tick + 1) (codes "end") c.args.job)) c.from.ensures)
-    ∙ ap (λ (ended : Option ℕ). text ++ with_commas (end_events c.args.thread.now.process c.args.thread.now.number c.args.job ended)) (sym c.in-Some.is)) c.put_instant.ensures
+    alone text _ _ (last (codes "end") refl ∙ ap (λ tick. text ++ with_comma (instant_event c.args.thread.now.process c.args.thread.now.number (tick + 1) (codes "end") c.args.job.now)) c.from.ensures)
+    ∙ ap (λ (ended : Option ℕ). text ++ with_commas (end_events c.args.thread.now.process c.args.thread.now.number c.args.job.now ended)) (sym c.in-Some.is)) c.put_instant.ensures

@@ -12,5 +12,5 @@ unfolding release_events
 returns c =
     on_ok_weaker c.put_instant.result (λ last.
     let text = c.args.text.now.items in
-    alone text _ _ (last (codes "release") refl ∙ ap (λ tick. text ++ with_comma (instant_event c.args.thread.now.process c.args.thread.now.number tick (codes "release") c.args.job)) c.from.ensures)
-    ∙ ap (λ (release : Option ℕ). text ++ with_commas (release_events c.args.thread.now.process c.args.thread.now.number c.args.job release)) (sym c.in-Some.is)) c.put_instant.ensures
+    alone text _ _ (last (codes "release") refl ∙ ap (λ tick. text ++ with_comma (instant_event c.args.thread.now.process c.args.thread.now.number tick (codes "release") c.args.job.now)) c.from.ensures)
+    ∙ ap (λ (release : Option ℕ). text ++ with_commas (release_events c.args.thread.now.process c.args.thread.now.number c.args.job.now release)) (sym c.in-Some.is)) c.put_instant.ensures

@@ -12,10 +12,10 @@ use Rattle.event_lines.proofs.texts.event_text.Goals as goal
 pub returns : goal.returns
 unfolding tracks_text
 returns c =
-    let events : List Piece = flat_map (tracks_events (some_group c.args.parts.now)) (map group_tracks_shown c.args.groups.now) in
+    let events : List Piece = flat_map (tracks_events (some_group c.args.parts.now)) (map group_tracks_shown c.args.groups.items) in
     let head = codes "{\"displayTimeUnit\":\"ms\",\"traceEvents\":[\n" in
     let first = c.text.inside in
-    let begun = last_put (whole_text first.whole.items) first.last.items c.put.new.text.items [] head (c.text.view_is ∙ c.in_ok-text.ensures) c.in_ok-put.ensures in
+    let begun = last_put (whole_text first.whole.items) first.last.items c.put.new.text.items [] head (c.text.view_is ∙ c.within-text.ensures) c.in_ok-put.ensures in
     let put = c.in_ok-put_groups.ensures ∙ ap (λ xs. xs ++ with_commas events) begun in
     let lines : c.drop_last_comma.new.text ≡ head ++ event_lines events = c.in_ok-drop_last_comma.ensures events put in
     let most = c.text-3.inside in

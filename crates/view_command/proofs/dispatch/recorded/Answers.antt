@@ -1,6 +1,5 @@
-use Rattle.std.proofs.Common.{ℕ, List, map, sym, ap, ◌∙◌, subst}
+use Rattle.std.proofs.Common.{ℕ, List, sym, subst}
 use Rattle.std.specs.Prelude.{Result}
-use Rattle.event_lines.specs.Shown.{group_tracks_shown}
 use Rattle.view_events.specs.TextTracks.{HasTracks}
 use Rattle.view_command.specs.inside.Viewing.{IsViewed, Pieces}
 use Rattle.view_command.specs.declared.ending.ViewEnd.{ViewEnd}
@@ -27,4 +26,4 @@ returns-in-Ok-Valid-default g c = λ tools opened.
     (subst (λ (r : Result Pieces ViewEnd). IsViewed tools h.version h.setup bytes Events r) (sym c.there.ensures)
     (view-said tools h.version h.setup bytes Events c.in-Ok-Valid-default.field-0-0-0 c.text_of_tracks.result c.requires.valid is
     (on-ok c.text_of_tracks.result c.text_of_tracks.ensures
-    (λ o text. text is.histories (ap (map group_tracks_shown) c.as_slice-in-Ok-Valid-default.ensures.value ∙ said is)))))
+    (λ o text. text is.histories (said is)))))
