@@ -8,7 +8,8 @@ pub mod Ranks
 pub mod UpTo
 pub mod ReadyTasks
 pub mod ReadyStates
-mod OneChanged
+pub mod AwayLaws
+pub mod OneChanged
 mod OneRow
 mod Finishing
 pub mod TickLaws

@@ -25,6 +25,14 @@ module _ {A : Type 0} (number : A → ℕ) where
       by_case true h = refl
       by_case false h = h
 
+  -- a number stands in one position
+  pub one-position : (xs : List A) (i p : ℕ) (d e : A) → IsDistinct (map number xs) → i < length xs → p < length xs → number (get_or xs i d) ≡ number (get_or xs p e) → i ≡ p
+  one-position [] i p d e once low below same = absurd (omega arith)
+  one-position (x ∷ xs) zero zero d e once low below same = refl
+  one-position (x ∷ xs) zero (suc p) d e once low below same = absurd (clash _ (listed-at (number x) xs p e (omega arith) (sym same)) once.0)
+  one-position (x ∷ xs) (suc i) zero d e once low below same = absurd (clash _ (listed-at (number x) xs i d (omega arith) same) once.0)
+  one-position (x ∷ xs) (suc i) (suc p) d e once low below same = ap suc (one-position xs i p d e once.1 (omega arith) (omega arith) same)
+
   module _ (f : A → A) (n : ℕ) (stays : (x : A) → (number x == n) ≡ false → f x ≡ x) where
     pub none-changed : (xs : List A) → All (λ x. (number x == n) ≡ false) xs → map f xs ≡ xs
     none-changed [] h = refl

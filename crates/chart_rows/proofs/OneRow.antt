@@ -14,7 +14,8 @@ use Rattle.chart_rows.specs.Units.{IsTold}
 use Rattle.chart_rows.specs.declared.units.Unit.{Unit}
 use Rattle.chart_rows.specs.Rows.{CpuKept, TaskKept, cpu_acted}
 use Rattle.chart_rows.specs.inside.Acted.{task_done, task_worked}
-use Rattle.chart_rows.specs.inside.Finding.{IsPositionOf, only}
+use Rattle.chart_rows.specs.Positions.{IsPositionOf}
+use Rattle.chart_rows.specs.inside.Finding.{only}
 use Rattle.chart_rows.proofs.OneChanged.{all-stay, none-changed, one-changed}
 
 -- ---- of one task

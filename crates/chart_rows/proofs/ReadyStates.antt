@@ -1,5 +1,5 @@
 -- What is known of a task whose cell in a state shows it ready and without a semaphore; and that what is known is written down.
-use Rattle.std.proofs.Common.{◌≡◌, ◌∙◌, ℕ, zero, suc, ◌⊎◌, inl, inr, Bool, true, false, List, [], ◌∷◌, eqb-true, refl, sym, ap, subst}
+use Rattle.std.proofs.Common.{◌≡◌, ◌≢◌, ◌∙◌, ℕ, zero, suc, ◌⊎◌, inl, inr, Bool, true, false, List, [], ◌∷◌, eqb-true, refl, sym, ap, subst}
 use Rattle.std.specs.Prelude.{Option, None, Some, if◌then◌else◌, ◌==◌, is_some, replicate, slice_index_or, slice_set}
 use Rattle.rt_rules.specs.declared.Key.{Key}
 use Rattle.rt_rules.specs.OrderLaws.{same_key}
@@ -16,7 +16,7 @@ use Rattle.trace_views.specs.Cells.{TaskCell, cell_at}
 use Rattle.trace_views.specs.Cells as cells
 use Rattle.chart_rows.specs.Looks.{doing_by, state_doing, there_by}
 use Rattle.chart_cells.specs.Kept.{later}
-use Rattle.chart_rows.specs.ReadyJobs.{AreReady, IsReadyWith, ready_cell}
+use Rattle.chart_rows.specs.ReadyJobs.{AreReady, IsReadyWith, KnowsMore, ready_cell}
 use Rattle.chart_rows.specs.Rows.{TaskKept, task_seen}
 use Rattle.chart_rows.proofs.ReadyTasks.{ready-cell}
 use Rattle.chart_rows.specs.declared.ready_jobs.ReadyJob.{ReadyJob}
@@ -66,6 +66,18 @@ found-where (x ∷ xs) (suc i) (suc u) v a h = further (found-where xs i u v a h
     further : (slice_index_or xs u None ≡ Some a) ⊎ ((i ≡ u) × (v ≡ Some a)) → (slice_index_or xs u None ≡ Some a) ⊎ ((suc i ≡ suc u) × (v ≡ Some a))
     further (inl m) = inl m
     further (inr m) = inr (ap suc m.0, m.1)
+
+pub not-known : {A : Type 0} (o : Option A) → ((a : A) → o ≢ Some a) → o ≡ None
+not-known None h = refl
+not-known (Some a) h = absurd (h a refl)
+
+-- of a task of which nothing is known something may be written down
+pub known-more : (js : List (Option ReadyJob)) (t : ℕ) (job : Option ReadyJob) → slice_index_or js t None ≡ None → KnowsMore js (slice_set js t job)
+known-more [] t job none u j h = h
+known-more (x ∷ js) zero job none zero j h = let no : None ≡ Some j = sym none ∙ h in cc
+known-more (x ∷ js) zero job none (suc u) j h = h
+known-more (x ∷ js) (suc t) job none zero j h = h
+known-more (x ∷ js) (suc t) job none (suc u) j h = known-more js t job none u j h
 
 some-same : {A : Type 0} {a b : A} → Some a ≡ Some b → a ≡ b
 some-same h = cc

@@ -47,6 +47,18 @@ pub without-left : (o : Option ℕ) (js : List (Option ReadyJob)) (t : ℕ) (j :
 without-left None js t j h = (refl, h)
 without-left (Some u) js t j h = left js u t j h
 
+-- and of the others all stays
+others : (js : List (Option ReadyJob)) (u t : ℕ) (job : Option ReadyJob) → t == u ≡ false → slice_index_or (slice_set js u job) t None ≡ slice_index_or js t None
+others [] u t job other = refl
+others (x ∷ js) zero zero job other = absurd (clash true refl other)
+others (x ∷ js) zero (suc t) job other = refl
+others (x ∷ js) (suc u) zero job other = refl
+others (x ∷ js) (suc u) (suc t) job other = others js u t job (let h : t == u ≡ false = grind (arith, nat_tests, other) in h)
+
+pub without-others : (o : Option ℕ) (js : List (Option ReadyJob)) (t : ℕ) → is t o ≡ false → slice_index_or (without o js) t None ≡ slice_index_or js t None
+without-others None js t other = refl
+without-others (Some u) js t other = others js u t None other
+
 -- ---- a later clock
 
 come-later : (from tick : ℕ) (o : Option ℕ) → has_come from o ≡ true → has_come (max from tick) o ≡ true
@@ -63,7 +75,7 @@ module _ (g : Group) (past : Past) (t : ℕ) where
   unfolding exists is_released opens_early
   exists-later tick s h = rw (s.release_same, s.done_same) (there-later (has_come (now past) (release g t past)) (has_come (max (now past) tick) (release g t past)) (task g t).early (nat_lt 0 (done t past)) (come-later (now past) tick (release g t past)) h)
 
-  awake-later : (tick : ℕ) → SameJob g t past (Clock tick ∷ past) → sleeps t past ≡ false → sleeps t (Clock tick ∷ past) ≡ false
+  pub awake-later : (tick : ℕ) → SameJob g t past (Clock tick ∷ past) → sleeps t past ≡ false → sleeps t (Clock tick ∷ past) ≡ false
   unfolding sleeps
   awake-later tick s h = rw s.wakes_same (grind (arith, nat_tests, h))
 

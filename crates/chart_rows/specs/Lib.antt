@@ -1,10 +1,12 @@
 pub mod Strips
 pub mod Rows
+pub mod Positions
 pub mod Units
 pub mod Looks
 pub mod Listed
 pub mod Foretold
 pub mod UpTo
 pub mod ReadyJobs
+pub mod AwayTasks
 pub mod inside
 pub mod RunCells

@@ -32,6 +32,10 @@ ready_cell j = record { doing = cells.ready; job = j.number; held = []; non_pree
 abbrev pub AreReady : Group → Past → List (Option ReadyJob) → Type 0
 AreReady g past js = (t : ℕ) (j : ReadyJob) → slice_index_or js t None ≡ Some j → IsReadyWith g past t j
 
+-- all that is known in one list is known in another
+abbrev pub KnowsMore : List (Option ReadyJob) → List (Option ReadyJob) → Type 0
+KnowsMore js more = (t : ℕ) (j : ReadyJob) → slice_index_or js t None ≡ Some j → slice_index_or more t None ≡ Some j
+
 abbrev pub without : Option ℕ → List (Option ReadyJob) → List (Option ReadyJob)
 without None js = js
 without (Some t) js = slice_set js t None

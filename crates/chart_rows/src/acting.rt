@@ -61,7 +61,7 @@ pub(crate) fn act_resv(row: &mut ResvFeed, unit: &Option<Unit>)
 }
 
 /// The task that arrives by the act.
-pub(crate) fn arriving(act: Act) -> Option<TaskNo>
+pub fn arriving(act: Act) -> Option<TaskNo>
     ensures { number_of_task result ≡ arriving act }
 {
     match act {

@@ -1,8 +1,8 @@
 //! The row of a task, and that of a processor, among those of all.
 ghost use Rattle.std.specs.Prelude.{◌≡◌, ◌≢◌, ◌<◌, ⊤, MatchOption, false, length, slice_index_or, true};
 ghost use Rattle.rt_base.specs.TaskNos.{number_of_task};
+ghost use Rattle.chart_rows.specs.Positions.{IsPositionOf};
 ghost use Rattle.chart_rows.specs.Rows.{CpuKept};
-ghost use Rattle.chart_rows.specs.inside.Finding.{IsPositionOf};
 
 use crate::cpus::CpuFeed;
 use crate::tasks::TaskFeed;
@@ -20,7 +20,7 @@ fn search(rows: &[TaskFeed], task: TaskNo) -> Option<usize>
 }
 
 /// The position of the task's row. Where a group has all tasks of its set, they stand by number, and it is found at once.
-pub(crate) fn position_of(rows: &[TaskFeed], task: TaskNo) -> Option<usize>
+pub fn position_of(rows: &[TaskFeed], task: TaskNo) -> Option<usize>
     ensures { IsPositionOf task.0 rows.now result }
 {
     let by_number = task.0.saturating_sub(1) as usize;

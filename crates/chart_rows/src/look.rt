@@ -148,6 +148,14 @@ pub(crate) fn shows_ready(cell: &Cell) -> bool
     matches!(cell.doing, Doing::Ready)
 }
 
+/// Whether the job of the task is not there.
+#[inline(always)]
+pub(crate) fn shows_away(cell: &Cell) -> bool
+    ensures { result ≡ true → (cell_shown cell.now).doing ≡ views.away }
+{
+    matches!(cell.doing, Doing::Away)
+}
+
 /// The same of a task that is known to be ready, with this job.
 #[inline(always)]
 pub(crate) fn see_ready(kept: &mut Cell, job: ReadyJob)

@@ -10,7 +10,6 @@ ghost use Rattle.chart_cells.specs.Cells.{cpu_numbers};
 ghost use Rattle.chart_texts.specs.Charts.{group_resvs};
 ghost use Rattle.view_acts.specs.ShownActs.{act_shown};
 ghost use Rattle.chart_rows.specs.Listed.{AreListed};
-ghost use Rattle.chart_rows.specs.ReadyJobs.{AreReady};
 ghost use Rattle.chart_rows.specs.Rows.{rows_acted, rows_closed, rows_finished, rows_of, rows_seen};
 ghost use Rattle.chart_rows.specs.Strips.{blank};
 ghost use Rattle.chart_rows.specs.Units.{IsTold, resv_numbers};
@@ -19,11 +18,9 @@ ghost use Rattle.chart_rows.specs.UpTo.{AreUpTo};
 use crate::cpus::CpuFeed;
 use crate::loops::{act_cpus, act_resvs, act_tasks, close_tasks, finish_tasks};
 use crate::opening::{cpu_rows, resv_rows, task_rows};
-use crate::ready_jobs::ReadyJobs;
 use crate::resvs::ResvFeed;
 use crate::seeing::{
     close_cpus, close_resvs, finish_cpus, finish_resvs, plays, see_tasks, see_tasks_after,
-    see_tasks_with,
 };
 use crate::tasks::TaskFeed;
 use crate::units::Unit;
@@ -79,28 +76,6 @@ impl Rows {
             → self.new ≡ rows_seen (group_of afresh.now) past self.old) }
     {
         see_tasks(self.tasks.as_mut_slice(), alloc, afresh)?;
-        Ok(())
-    }
-
-    /// Takes a state of the column, as `see` does, with what is known of tasks that are ready: of these nothing is read, and those that
-    /// are found so are written down.
-    pub fn see_with(
-        &mut self,
-        alloc: Global,
-        afresh: &Afresh,
-        ready: &mut ReadyJobs,
-    ) -> Result<(), NoMemory>
-        requires listed { AreListed (group_of afresh.now) self.old }
-        requires at { (past : Past) × IsAt afresh.now past
-            × AreReady (group_of afresh.now) past ready.old }
-        ensures rows { OnOk result ((past : Past) → IsAt afresh.now past
-            → AreReady (group_of afresh.now) past ready.old
-            → self.new ≡ rows_seen (group_of afresh.now) past self.old) }
-        ensures ready { OnOk result ((past : Past) → IsAt afresh.now past
-            → AreReady (group_of afresh.now) past ready.old
-            → AreReady (group_of afresh.now) past ready.new) }
-    {
-        see_tasks_with(self.tasks.as_mut_slice(), alloc, afresh, ready)?;
         Ok(())
     }
 

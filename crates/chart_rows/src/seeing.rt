@@ -4,28 +4,30 @@ ghost use Rattle.rt_base.specs.TaskNos.{number_of_task};
 ghost use Rattle.rt_rules.specs.Distinct.{IsDistinct};
 ghost use Rattle.rt_rules.specs.Numbers.{has};
 ghost use Rattle.rt_model.specs.Group as groups;
-ghost use Rattle.rt_model.specs.Past.{Acted, Past};
+ghost use Rattle.rt_model.specs.Past.{Acted, Past, now};
 ghost use Rattle.rt_plays.specs.Homes.{IsProcessorOf};
 ghost use Rattle.rank_afresh.specs.Standing.{IsAt, group_of};
 ghost use Rattle.chart_texts.specs.Charts.{group_resvs};
 ghost use Rattle.view_acts.specs.ShownActs.{act_shown};
+ghost use Rattle.chart_rows.specs.AwayTasks.{AreAway};
 ghost use Rattle.chart_rows.specs.inside.Finding.{only};
 ghost use Rattle.chart_rows.specs.inside.Plays.{played_shown};
 ghost use Rattle.chart_rows.specs.Listed.{tasks_listed};
-ghost use Rattle.chart_rows.specs.ReadyJobs.{AreReady};
+ghost use Rattle.chart_rows.specs.ReadyJobs.{AreReady, KnowsMore};
 ghost use Rattle.chart_rows.specs.Rows as rows;
 ghost use Rattle.chart_rows.specs.UpTo.{IsUpTo};
 
 use crate::acting::arriving;
+use crate::away_tasks::AwayTasks;
 use crate::cpus::CpuFeed;
 use crate::finding::{are_same, position_of};
-use crate::look::{cpu_at_end, see_ready, see_state, shows_ready};
+use crate::look::{cpu_at_end, see_ready, see_state, shows_away, shows_ready};
 use crate::loops::Played;
 use crate::ready_jobs::ReadyJobs;
 use crate::resvs::ResvFeed;
 use crate::tasks::TaskFeed;
 use rank_afresh::Afresh;
-use rt_base::{NoMemory, TaskNo};
+use rt_base::{NoMemory, TaskNo, Tick};
 use std::alloc::Global;
 use view_acts::ShownAct;
 
@@ -41,9 +43,10 @@ fn see_task(row: &mut TaskFeed, alloc: Global, afresh: &Afresh) -> Result<(), No
     Ok(())
 }
 
-/// The same, with what is known of tasks that are ready: of such a one nothing is read.
+/// A state more for the row of a task, with what is known of tasks that are ready: of such a one nothing is read, and a task that is
+/// found so is written down.
 #[inline(always)]
-fn see_task_with(
+pub fn see_task_with(
     row: &mut TaskFeed,
     alloc: Global,
     afresh: &Afresh,
@@ -57,6 +60,7 @@ fn see_task_with(
     ensures ready { OnOk result ((past : Past) → IsAt afresh.now past
         → AreReady (group_of afresh.now) past ready.old
         → AreReady (group_of afresh.now) past ready.new) }
+    ensures known { KnowsMore ready.old ready.new }
 {
     let task = row.task();
     if shows_ready(&row.kept) && ready.get(task).is_some() {
@@ -73,26 +77,39 @@ fn see_task_with(
     Ok(())
 }
 
-/// A state more for the rows of tasks, with what is known of tasks that are ready.
-pub(crate) fn see_tasks_with(
-    tasks: &mut [TaskFeed],
+/// The same, with what is known of tasks whose job is not there yet too: of such a one nothing is read until its release, and a task
+/// that is found so is written down.
+#[inline(always)]
+pub fn see_task_knowing(
+    row: &mut TaskFeed,
     alloc: Global,
     afresh: &Afresh,
+    clock: Tick,
     ready: &mut ReadyJobs,
+    away: &mut AwayTasks,
 ) -> Result<(), NoMemory>
-    requires tasks { All (λ (k : rows.TaskKept).
-        has k.task (groups.tasks (group_of afresh.now)) ≡ true) tasks.old }
-    requires at { (past : Past) × IsAt afresh.now past
-        × AreReady (group_of afresh.now) past ready.old }
-    ensures tasks { OnOk result ((past : Past) → IsAt afresh.now past
+    requires task { has row.old.task (groups.tasks (group_of afresh.now)) ≡ true }
+    requires at { (past : Past) × IsAt afresh.now past }
+    ensures row { OnOk result ((past : Past) → IsAt afresh.now past → clock.0 ≡ now past
         → AreReady (group_of afresh.now) past ready.old
-        → tasks.new ≡ map (rows.task_seen (group_of afresh.now) past) tasks.old) }
+        → AreAway (group_of afresh.now) past away.old
+        → row.new ≡ rows.task_seen (group_of afresh.now) past row.old) }
     ensures ready { OnOk result ((past : Past) → IsAt afresh.now past
         → AreReady (group_of afresh.now) past ready.old
         → AreReady (group_of afresh.now) past ready.new) }
+    ensures away { OnOk result ((past : Past) → IsAt afresh.now past
+        → AreReady (group_of afresh.now) past ready.old
+        → AreAway (group_of afresh.now) past away.old
+        → AreAway (group_of afresh.now) past away.new) }
+    ensures known { KnowsMore ready.old ready.new }
 {
-    for row in tasks.iter_mut() {
-        see_task_with(row, alloc, afresh, ready)?;
+    let task = row.task();
+    if away.has(task, clock) {
+        return Ok(());
+    }
+    see_task_with(row, alloc, afresh, ready)?;
+    if shows_away(&row.kept) {
+        away.learn(afresh, task);
     }
     Ok(())
 }

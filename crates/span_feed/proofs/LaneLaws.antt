@@ -13,8 +13,11 @@ use Rattle.event_texts.specs.TaskSpans as task_texts
 use Rattle.event_lines.specs.Tracks.{TaskTrack}
 use Rattle.span_feed.specs.Begun.{GoesOn, IsHeld, IsLeft, IsRunOrReady}
 use Rattle.span_feed.specs.Extended.{Decides, extended}
-use Rattle.span_feed.specs.Lane.{EndsWith, LastIs, TaskLane, gone, last_to, spans_to, track_to}
+use Rattle.span_feed.specs.Lane.{EndsWith, LastIs, TaskLane, gone, last_to, lasting, spans_to, stay_touched, touched, track_to}
 use Rattle.span_feed.specs.Spanned.{task_more}
+use Rattle.span_feed.specs.Still.{HasRested, IsStill}
+use Rattle.span_feed.specs.declared.stay.Stay.{Stay}
+use Rattle.span_feed.specs.declared.stay.Stay.TheVariants.{Away, Changes, Rests, Touched}
 
 module _ {A : Type 0} (same : A → A → Bool) (from to : ℕ) (x : A) where
   -- the value of the last span, which lasts up to where it is added
@@ -68,29 +71,58 @@ ready-unrun (q ∷ qs) j c is ready = let no : cells.running (q ∷ qs) ≡ cell
 
 -- ---- a column that is taken
 
--- where the task goes on as it did, its row shows that
-pub goes-on-shown : (known : Option ReadyJob) (c : TaskCell) (k : TaskKept) → IsRunOrReady known k → GoesOn known c k → k.kept ≡ c
-goes-on-shown known c k run (inl h) = h.1 ∙ sym h.0
-goes-on-shown known c k run (inr h) = let r = run h.0 h.2 in ready-unrun r.0 h.0 k.kept r.1 h.3 ∙ sym h.1
+module _ (known : Option ReadyJob) (l : TaskLane) (k : TaskKept) (run : IsRunOrReady known k) (rested : HasRested known l) where
+  rests-ready : (j : ReadyJob) → l.stays ≡ Rests j → k.kept.doing ≡ cells.ready → k.kept ≡ ready_cell j
+  rests-ready j rests ready = let r = run j (rested j rests) in ready-unrun r.0 j k.kept r.1 ready
 
--- and its row is as it should be for the next column
-pub goes-on-left : (g : Group) (known : Option ReadyJob) (c : TaskCell) (k : TaskKept) → IsRunOrReady known k → GoesOn known c k → IsLeft g known k (record k { end = false })
-goes-on-left g known c k run (inl h) = inl (λ i. record (task_cleared g k) { kept = h.1 i })
-goes-on-left g known c k run (inr h) = let r = run h.0 h.2 in inr (h.0, h.2, λ i. record (task_cleared g k) { kept = ready-unrun r.0 h.0 k.kept r.1 h.3 i })
+  -- where the task goes on as it did, its row shows that
+  pub goes-on-shown : GoesOn l k → (c : TaskCell) × (lasting l.stays ≡ Some c) × LastIs c l.track.spans × (k.kept ≡ c)
+  goes-on-shown (inl h) = (gone, ap lasting h.0, h.1, h.2)
+  goes-on-shown (inr h) = (ready_cell h.0, ap lasting h.1, h.2, rests-ready h.0 h.1 h.3)
 
-pub held-left : (g : Group) (known : Option ReadyJob) (lasts lasts' : Option TaskCell) (k was new : TaskKept) → IsHeld known lasts lasts' was new → was ≡ task_cleared g k → IsLeft g known k new
-held-left g known lasts lasts' k was new (inl h) cleared = inl (h.0 ∙ cleared)
-held-left g known lasts lasts' k was new (inr h) cleared = inr (h.0, h.1, h.3 ∙ ap (λ (x : TaskKept). let y : TaskKept = record x { kept = ready_cell h.0 } in y) cleared)
+  -- and its row is as it should be for the next column
+  pub goes-on-left : (g : Group) → GoesOn l k → IsLeft g known k (record k { end = false })
+  goes-on-left g (inl h) = inl (λ i. record (task_cleared g k) { kept = h.2 i })
+  goes-on-left g (inr h) = inr (h.0, rested h.0 h.1, λ i. record (task_cleared g k) { kept = rests-ready h.0 h.1 h.3 i })
 
-pub held-track : (from to : ℕ) (known : Option ReadyJob) (k : TaskKept) (x : TaskTrack) (was : TaskKept) (l : TaskLane) (new : TaskKept) → l.track ≡ task_more from to k x → IsHeld known None l.lasts was new → track_to to l ≡ task_more from to k x
-held-track from to known k x was l new made held = by_held held
+  pub goes-on-still : GoesOn l k → IsStill known l (record k { end = false })
+  goes-on-still (inl h) j rests = let clash : Away ≡ Rests j = sym h.0 ∙ rests in cc
+  goes-on-still (inr h) j rests = (rested j rests, rests-ready j rests h.3)
+
+module _ (known : Option ReadyJob) (was new : TaskKept) where
+  pub held-left : (g : Group) (stays : Stay) (k : TaskKept) → IsHeld known stays was new → was ≡ task_cleared g k → IsLeft g known k new
+  held-left g stays k (inl h) cleared = inl (h.0 ∙ cleared)
+  held-left g stays k (inr h) cleared = inr (h.0, h.1, h.3 ∙ ap (λ (x : TaskKept). let y : TaskKept = record x { kept = ready_cell h.0 } in y) cleared)
+
+  pub held-still : (l : TaskLane) → IsHeld known l.stays was new → IsStill known l new
+  held-still l (inl h) j rests = absurd (h.1 j rests)
+  held-still l (inr h) j rests =
+      let is : Rests h.0 ≡ Rests j = sym h.2 ∙ rests in
+      let same : h.0 ≡ j = cc in
+      (h.1 ∙ ap Some same, ap (λ (k : TaskKept). k.kept) h.3 ∙ ap ready_cell same)
+
+pub held-track : (from to : ℕ) (k : TaskKept) (x : TaskTrack) (l : TaskLane) → l.track ≡ task_more from to k x → track_to to l ≡ task_more from to k x
+held-track from to k x l made = by_case (lasting l.stays) refl
   where
-    lasting_on : (c : TaskCell) → l.lasts ≡ Some c → track_to to l ≡ task_more from to k x
-    lasting_on c is =
+    by_case : (o : Option TaskCell) → lasting l.stays ≡ o → track_to to l ≡ task_more from to k x
+    by_case None is = (λ i. record l.track { spans = spans_to to (is i) l.track.spans }) ∙ made
+    by_case (Some c) is =
         (λ i. record l.track { spans = spans_to to (is i) l.track.spans }) ∙ (λ i. record (made i) { spans = last_to to (made i).spans })
         ∙ (λ i. record (task_more from to k x) { spans = last-is-there task_texts.same_cell from to k.kept x.spans i })
 
-    by_held : IsHeld known None l.lasts was new → track_to to l ≡ task_more from to k x
-    by_held (inl (same, inl none)) = (λ i. record l.track { spans = spans_to to (none i) l.track.spans }) ∙ made
-    by_held (inl (same, inr away)) = lasting_on gone away
-    by_held (inr h) = lasting_on (ready_cell h.0) h.2
+-- ---- an act touches the task
+
+touched-lasts : (s : Stay) → lasting (stay_touched s) ≡ lasting s
+touched-lasts Changes = refl
+touched-lasts Away = refl
+touched-lasts (Rests j) = refl
+touched-lasts (Touched j) = refl
+
+pub touched-track : (n : ℕ) (l : TaskLane) → track_to n (touched l) ≡ track_to n l
+touched-track n l = λ i. record l.track { spans = spans_to n (touched-lasts l.stays i) l.track.spans }
+
+pub touched-rests : (s : Stay) (j : ReadyJob) → stay_touched s ≡ Rests j → ⊥
+touched-rests Changes j h = cc
+touched-rests Away j h = cc
+touched-rests (Rests k) j h = cc
+touched-rests (Touched k) j h = cc

@@ -7,6 +7,8 @@ pub mod Tracking
 pub mod Feeding
 pub mod Spent
 pub mod LaneLaws
+pub mod Stillness
+pub mod Touching
 pub mod Holding
 pub mod Taken
 pub mod Fed

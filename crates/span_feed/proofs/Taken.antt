@@ -8,11 +8,17 @@ use Rattle.chart_rows.specs.declared.ready_jobs.ReadyJob.{ReadyJob}
 use Rattle.span_feed.specs.Begun.{IsBegun, IsLeft}
 use Rattle.span_feed.specs.Lane.{TaskLane, track_to}
 use Rattle.span_feed.specs.Spanned.{paired, task_more}
+use Rattle.span_feed.specs.Still.{AreStill, IsStill}
+use Rattle.span_feed.specs.declared.stay.Stay.TheVariants.{Changes}
 use Rattle.span_feed.proofs.Beside.{AreTaken, maps-same, paired-each}
 
 abbrev pub IsTaken : List (Option ReadyJob) → ℕ → ℕ → TaskKept → TaskLane → TaskKept → TaskLane → Type 0
 IsTaken js from to k l new made =
-    ((g : Group) → IsLeft g (slice_index_or js k.task None) k new) × (track_to to made ≡ task_more from to k (track_to from l))
+    ((g : Group) → IsLeft g (slice_index_or js k.task None) k new) × (track_to to made ≡ task_more from to k (track_to from l)) × IsStill (slice_index_or js k.task None) made new
+
+left-task : (g : Group) (o : Option ReadyJob) (k new : TaskKept) → IsLeft g o k new → new.task ≡ k.task
+left-task g o k new (inl h) = ap (λ (x : TaskKept). x.task) h
+left-task g o k new (inr h) = ap (λ (x : TaskKept). x.task) h.2
 
 left-cleared : (g : Group) (o : Option ReadyJob) (k new : TaskKept) → IsLeft g o k new → task_cleared g new ≡ task_cleared g k
 left-cleared g o k new (inl h) = ap (task_cleared g) h
@@ -29,7 +35,7 @@ module _ (js : List (Option ReadyJob)) (from to n : ℕ) (rows new : List TaskKe
 
   -- a lane that stands for none
   nothing : TaskLane
-  nothing = record { track = record { task = 0; spans = []; jobs = [] }; lasts = None }
+  nothing = record { track = record { task = 0; spans = []; jobs = [] }; stays = Changes }
 
   pub taken-cleared : (g : Group) → map (task_cleared g) new ≡ map (task_cleared g) rows
   taken-cleared g = maps-same (task_cleared g) rows new rows_long (λ i d low. left-cleared g _ (get_or rows i d) (get_or new i d) ((each i d nothing low).0 g))
@@ -39,3 +45,10 @@ module _ (js : List (Option ReadyJob)) (from to n : ℕ) (rows new : List TaskKe
 
   pub taken-tracks : map (track_to to) made ≡ paired (task_more from to) rows (map (track_to from) lanes)
   taken-tracks = paired-each (task_more from to) (track_to from) (track_to to) rows lanes made beside lanes_long (λ i d e low. (each i d e low).1)
+
+  pub taken-still : (g : Group) → AreStill js made new
+  taken-still g i e d low j rests =
+      let there : i < length rows = omega (arith, low, rows_long) in
+      let at = each i d e there in
+      let still = at.2 j rests in
+      (ap (λ t. slice_index_or js t None) (left-task g _ (get_or rows i d) (get_or new i d) (at.0 g)) ∙ still.0, still.1)

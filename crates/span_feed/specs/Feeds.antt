@@ -3,13 +3,13 @@ use Rattle.std.specs.Prelude.{◌≡◌, ℕ, Bool, true, false, nat_le, max, Li
 use Rattle.rt_task.specs.Validity.{IsValid}
 use Rattle.rt_model.specs.Group.{Group}
 use Rattle.rt_model.specs.Past.{Past, now}
-use Rattle.chart_rows.specs.ReadyJobs.{AreReady}
 use Rattle.chart_rows.specs.Strips.{Strip}
 use Rattle.event_lines.specs.Shown.{cpu_track_shown, resv_track_shown}
 use Rattle.event_lines.specs.Tracks.{GroupTracks}
 use Rattle.span_feed.specs.Begun.{HasBegun, IsShown}
 use Rattle.span_feed.specs.Lane.{track_to}
 use Rattle.span_feed.specs.Spanned.{HasSpans}
+use Rattle.span_feed.specs.Still.{AreKnown, AreRested, AreStill}
 use Rattle.span_feed.specs.TickStrips.{tick_strip, ticks_below, turned_strip}
 use Rattle.span_feed.specs.declared.feed.SpanFeed.{SpanFeed}
 use Rattle.span_feed.specs.declared.lanes.GroupLanes.{GroupLanes}
@@ -28,13 +28,15 @@ module _ (g : Group) where
   pub record Holds (over : List Strip) (going : Strip) (f : SpanFeed) : Type 0 where
     pub spans : HasSpans g over going f.rows (tracks_to (length over) f.lanes)
     pub shown : All (IsShown f.ready) f.rows.tasks
+    pub rested : AreRested f.ready f.lanes.tasks.items f.rows.tasks
 
-  abbrev pub Begins : List Strip → SpanFeed → Type 0
-  Begins over f = HasBegun g f.ready over f.rows (tracks_to (length over) f.lanes)
+  pub record Begins (over : List Strip) (f : SpanFeed) : Type 0 where
+    pub column : HasBegun g f.ready over f.rows (tracks_to (length over) f.lanes)
+    pub still : AreStill f.ready f.lanes.tasks.items f.rows.tasks
 
-  -- the set is valid, and of tasks that are ready is known what is so
+  -- the set is valid, and what is known of tasks is so
   abbrev pub Knows : Past → SpanFeed → Type 0
-  Knows past f = IsValid g.setup × AreReady g past f.ready
+  Knows past f = IsValid g.setup × AreKnown g past f.ready f.away
 
   -- the ticks before the newest are over, and that goes on; and the clock is about to be moved to a tick, before which all are over
   abbrev pub IsFed : Past → SpanFeed → Type 0

@@ -6,7 +6,7 @@ use Rattle.trace_views.specs.Spans.{Span}
 use Rattle.chart_rows.specs.ReadyJobs.{ready_cell}
 use Rattle.event_lines.specs.Tracks.{TaskTrack}
 use Rattle.span_feed.specs.declared.stay.Stay.{Stay}
-use Rattle.span_feed.specs.declared.stay.Stay.TheVariants.{Changes, Away, Ready}
+use Rattle.span_feed.specs.declared.stay.Stay.TheVariants.{Changes, Away, Rests, Touched}
 
 -- the cell of a task whose job is not there
 abbrev pub gone : TaskCell
@@ -16,12 +16,22 @@ gone = record { doing = cells.away; job = 0; held = []; non_preemptive = false; 
 abbrev pub lasting : Stay → Option TaskCell
 lasting Changes = None
 lasting Away = Some gone
-lasting (Ready j) = Some (ready_cell j)
+lasting (Rests j) = Some (ready_cell j)
+lasting (Touched j) = Some (ready_cell j)
 
--- the cell that lasts is what the task goes on to show, if that is known
 pub record TaskLane : Type 0 where
   pub track : TaskTrack
-  pub lasts : Option TaskCell
+  pub stays : Stay
+
+-- an act touches the task
+abbrev pub stay_touched : Stay → Stay
+stay_touched Changes = Changes
+stay_touched Away = Away
+stay_touched (Rests j) = Touched j
+stay_touched (Touched j) = Touched j
+
+abbrev pub touched : TaskLane → TaskLane
+touched l = record l { stays = stay_touched l.stays }
 
 -- the last span, if there is one, lasts up to a tick
 abbrev pub last_to : {A : Type 0} → ℕ → List (Span A) → List (Span A)
@@ -45,4 +55,4 @@ spans_to n (Some c) ss = last_to n ss
 
 -- the track, where so many ticks are over
 abbrev pub track_to : ℕ → TaskLane → TaskTrack
-track_to n l = record l.track { spans = spans_to n l.lasts l.track.spans }
+track_to n l = record l.track { spans = spans_to n (lasting l.stays) l.track.spans }

@@ -25,8 +25,10 @@ ghost use Rattle.span_feed.specs.Spanned.{unmarked};
 
 use crate::lanes::GroupLanes;
 use crate::opening::{cpu_tracks, resv_tracks, task_lanes};
+use crate::seeing::see_first;
 use crate::taking::{close_lanes, take_column};
-use chart_rows::{CpuFeed, ReadyJobs, Rows, Unit, foretell, keep_if_done, place_of};
+use crate::waking::wake_touched;
+use chart_rows::{AwayTasks, CpuFeed, ReadyJobs, Rows, Unit, foretell, keep_if_done, place_of};
 use event_lines::GroupTracks;
 use rank_afresh::Afresh;
 use rt_base::{CpuNo, GroupNo, NoMemory, ResvNo, TaskNo, Tick};
@@ -46,12 +48,13 @@ pub struct Members<'a> {
 /// The spans of a group over the ticks that are over, and what there is of the newest tick, while its steps are taken again. Each
 /// step is shown by four calls, in this order: `turn` before the clock is moved, `see` after that, `foretell` before the act, and
 /// `act` after it. Memory is taken for the spans, and not for ticks. All tasks are looked at once a tick, but for those that are known to
-/// be ready still, and after an act those alone that it touches.
+/// be ready still or to have no job yet, and after an act those alone that it touches.
 #[derive(Drop)]
 pub struct SpanFeed {
     rows: Rows,
     lanes: GroupLanes,
     ready: ReadyJobs,
+    away: AwayTasks,
     /// After `turn`: whether the tick that goes on has states before the move of the clock.
     begun: bool,
 }
@@ -64,12 +67,13 @@ fn has_unit(row: &CpuFeed) -> bool
 }
 
 impl SpanFeed {
-    /// A group at opening.
+    /// A group at opening, which may take so many steps.
     pub fn open(
         alloc: Global,
         parts: &Parts,
         members: &Members,
         afresh: &Afresh,
+        steps: u32,
     ) -> Result<SpanFeed, NoMemory>
         requires valid { IsValid parts.now }
         requires parts { parts.now ≡ afresh.now.setup }
@@ -85,15 +89,17 @@ impl SpanFeed {
         rows.see(alloc, afresh)?;
         let lanes = GroupLanes {
             group: members.group,
-            tasks: task_lanes(alloc, members.tasks)?,
+            tasks: task_lanes(alloc, members.tasks, steps)?,
             cpus: cpu_tracks(alloc, members.cpus)?,
             resvs: resv_tracks(alloc, members.resvs)?,
         };
         let ready = ReadyJobs::new(alloc, parts.tasks.as_slice().len() + 1)?;
+        let away = AwayTasks::new(alloc, parts.tasks.as_slice().len() + 1)?;
         Ok(SpanFeed {
             rows,
             lanes,
             ready,
+            away,
             begun: true,
         })
     }
@@ -109,6 +115,7 @@ impl SpanFeed {
             → Holds (group_of afresh.now) over going self.old
             → Begins (group_of afresh.now) (over ++ going ∷ []) self.new) }
         ensures known { OnOk result (self.new.ready ≡ self.old.ready) }
+        ensures away { OnOk result (self.new.away ≡ self.old.away) }
     {
         self.rows.finish(alloc, afresh)?;
         take_column(
@@ -118,7 +125,8 @@ impl SpanFeed {
             &self.ready,
             now,
             now + 1,
-        )
+        )?;
+        Ok(())
     }
 
     /// The ticks from one on up to another, which show the newest state.
@@ -138,6 +146,7 @@ impl SpanFeed {
             → Begins (group_of afresh.now) (over ++ replicate (to - from) (seen past blank))
             self.new) }
         ensures known { OnOk result (self.new.ready ≡ self.old.ready) }
+        ensures away { OnOk result (self.new.away ≡ self.old.away) }
     {
         if to <= from {
             return Ok(());
@@ -151,7 +160,8 @@ impl SpanFeed {
             &self.ready,
             from,
             to,
-        )
+        )?;
+        Ok(())
     }
 
     /// Ends the ticks before one to which the clock is to be moved from this one.
@@ -179,18 +189,28 @@ impl SpanFeed {
         Ok(())
     }
 
-    /// Takes the state after the clock was moved.
-    pub fn see(&mut self, alloc: Global, afresh: &Afresh) -> Result<(), NoMemory>
+    /// Takes the state after the clock was moved, which is now this one.
+    pub fn see(&mut self, alloc: Global, afresh: &Afresh, now: Tick) -> Result<(), NoMemory>
         requires turned { (past : Past) × (tick : ℕ) × IsAt afresh.now (Clock tick ∷ past)
-            × IsTurned (group_of afresh.now) tick past self.old }
+            × IsTurned (group_of afresh.now) tick past self.old
+            × (now.0 ≡ pasts.now (Clock tick ∷ past)) }
         ensures { OnOk result ((past : Past) (tick : ℕ) → IsAt afresh.now (Clock tick ∷ past)
+            → now.0 ≡ pasts.now (Clock tick ∷ past)
             → IsTurned (group_of afresh.now) tick past self.old
             → IsFed (group_of afresh.now) (Clock tick ∷ past) self.new) }
     {
         if self.begun {
             return Ok(());
         }
-        self.rows.see_with(alloc, afresh, &mut self.ready)?;
+        see_first(
+            &mut self.rows,
+            &self.lanes,
+            alloc,
+            afresh,
+            now,
+            &mut self.ready,
+            &mut self.away,
+        )?;
         Ok(())
     }
 
@@ -247,9 +267,11 @@ impl SpanFeed {
             → IsFed (group_of afresh.now) past self.old
             → IsFed (group_of afresh.now) (Acted (act_shown act.now) ∷ past) self.new) }
     {
+        wake_touched(&self.rows, &mut self.lanes, act);
         keep_if_done(unit, act);
         self.rows.act(alloc, act, unit)?;
         self.ready.take_act(act);
+        self.away.take_act(act);
         self.rows.see_after(alloc, afresh, act)
     }
 

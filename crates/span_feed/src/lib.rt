@@ -6,8 +6,10 @@ mod lane;
 mod lanes;
 mod opening;
 mod same;
+mod seeing;
 mod spans;
 mod stay;
 mod taking;
+mod waking;
 
 pub use feed::{Members, SpanFeed};

@@ -1,26 +1,35 @@
 //! What a group's tasks, processors and reservations have done before its first tick: nothing.
-ghost use Rattle.std.specs.Prelude.{◌≡◌, [], IfOk, map};
+ghost use Rattle.std.specs.Prelude.{◌≡◌, [], All, IfOk, map};
 ghost use Rattle.rt_base.specs.TaskNos.{numbers};
 ghost use Rattle.rt_model.specs.Group.{Group};
 ghost use Rattle.chart_cells.specs.Cells.{cpu_numbers};
 ghost use Rattle.chart_rows.specs.Units.{resv_numbers};
 ghost use Rattle.event_lines.specs.Shown.{cpu_track_shown, resv_track_shown};
+ghost use Rattle.span_feed.specs.Lane as seen;
 ghost use Rattle.span_feed.specs.Lane.{track_to};
 ghost use Rattle.span_feed.specs.Spanned.{cpu_spanned, resv_spanned, task_spanned};
 
 use crate::lane::TaskLane;
+use crate::stay::Stay;
 use event_lines::{CpuTrack, ResvTrack};
 use rt_base::{CpuNo, NoMemory, ResvNo, TaskNo};
 use std::alloc::Global;
 
-/// The spans of these tasks.
-pub(crate) fn task_lanes(alloc: Global, tasks: &[TaskNo]) -> Result<Vec<TaskLane>, NoMemory>
-    ensures { IfOk result (λ v. (g : Group)
+/// The spans of these tasks. Room is kept for as many spans as there are steps, as many for each task.
+pub(crate) fn task_lanes(
+    alloc: Global,
+    tasks: &[TaskNo],
+    steps: u32,
+) -> Result<Vec<TaskLane>, NoMemory>
+    ensures lanes { IfOk result (λ v. (g : Group)
         → map (track_to 0) v.items ≡ map (task_spanned g []) (numbers tasks.now)) }
+    ensures none_rests { IfOk result
+        (λ v. All (λ (l : seen.TaskLane). l.stays ≡ Stay.Changes) v.items) }
 {
+    let room = steps as usize / tasks.len().max(1);
     let mut lanes = Vec::new(alloc);
     for task in tasks {
-        lanes.push(TaskLane::new(alloc, *task))?;
+        lanes.push(TaskLane::new(alloc, *task, room)?)?;
     }
     Ok(lanes)
 }

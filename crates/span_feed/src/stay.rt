@@ -1,13 +1,12 @@
 //! What a task goes on to do from one tick to the next.
-ghost use Rattle.std.specs.Prelude.{◌≡◌, None, Some, slice_index_or, true};
+ghost use Rattle.std.specs.Prelude.{◌≡◌, Some, true};
 ghost use Rattle.trace_views.specs.Cells.{TaskCell};
 ghost use Rattle.chart_cells.specs.Cells.{cell_shown};
 ghost use Rattle.chart_rows.specs.ReadyJobs.{ready_cell};
 ghost use Rattle.span_feed.specs.Lane.{gone, lasting};
 
 use chart_cells::{Cell, Doing};
-use chart_rows::{ReadyJob, ReadyJobs};
-use rt_base::TaskNo;
+use chart_rows::ReadyJob;
 
 /// What a task goes on to do, so far as is known.
 #[derive(Clone, Copy)]
@@ -16,24 +15,10 @@ pub(crate) enum Stay {
     Changes,
     /// Its job is not there.
     Away,
-    /// Its job is there and ready, and the task has nothing to do with semaphores.
-    Ready(ReadyJob),
-}
-
-fn same_job(one: ReadyJob, other: ReadyJob) -> bool
-    ensures { result ≡ true → one ≡ other }
-{
-    one.number == other.number && one.non_preemptive == other.non_preemptive
-}
-
-/// Whether this is the job that is known of a task.
-pub(crate) fn is_known(ready: &ReadyJobs, task: TaskNo, job: ReadyJob) -> bool
-    ensures { result ≡ true → slice_index_or ready.now task.0 None ≡ Some job }
-{
-    match ready.get(task) {
-        Some(known) => same_job(known, job),
-        None => false,
-    }
+    /// Its job is known to be there and ready, and the task has nothing to do with semaphores.
+    Rests(ReadyJob),
+    /// It rested, and an act has touched it since.
+    Touched(ReadyJob),
 }
 
 /// Whether a cell shows a task ready, without a semaphore and with this job.
@@ -62,10 +47,10 @@ pub(crate) fn is_gone(cell: &Cell) -> bool
 /// What a cell shows, if a task may go on so: with the job that is known of it, or without a job.
 pub(crate) fn stay_of(cell: &Cell, known: Option<ReadyJob>) -> Stay
     ensures cell { (c : TaskCell) → lasting result ≡ Some c → cell_shown cell.now ≡ c }
-    ensures known { (j : ReadyJob) → result ≡ Stay.Ready j → known ≡ Some j }
+    ensures known { (j : ReadyJob) → result ≡ Stay.Rests j → known ≡ Some j }
 {
     match known {
-        Some(job) if shows(cell, job) => Stay::Ready(job),
+        Some(job) if shows(cell, job) => Stay::Rests(job),
         _ if is_gone(cell) => Stay::Away,
         _ => Stay::Changes,
     }

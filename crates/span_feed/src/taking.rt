@@ -8,6 +8,7 @@ ghost use Rattle.span_feed.specs.Begun.{HasBegun, IsBegun, IsRunOrReady};
 ghost use Rattle.span_feed.specs.Feeds.{tracks_to};
 ghost use Rattle.span_feed.specs.Lane.{track_to};
 ghost use Rattle.span_feed.specs.Spanned.{HasEnded, cpu_cleared, cpu_more, paired, resv_cleared, resv_more, task_more};
+ghost use Rattle.span_feed.specs.Still.{AreRested, AreStill};
 
 use crate::lane::TaskLane;
 use crate::lanes::GroupLanes;
@@ -50,11 +51,13 @@ fn take_tasks(
     requires long { length lanes.old ≡ length rows.old }
     requires shown { All (λ (k : TaskKept).
         IsRunOrReady (slice_index_or ready.now k.task None) k) rows.old }
+    requires rested { AreRested ready.now lanes.old rows.old }
     ensures cleared { OnOk result ((g : Group)
         → map (task_cleared g) rows.new ≡ map (task_cleared g) rows.old) }
     ensures begun { OnOk result ((g : Group) → All (IsBegun g ready.now) rows.new) }
     ensures lanes { OnOk result (map (track_to to) lanes.new
         ≡ paired (task_more from to) rows.old (map (track_to from) lanes.old)) }
+    ensures still { OnOk result ((g : Group) → AreStill ready.now lanes.new rows.new) }
 {
     for (i, row) in rows.iter_mut().enumerate() {
         lanes[i].take(alloc, row, ready, from, to)?;
@@ -110,9 +113,12 @@ pub(crate) fn take_column(
         × HasEnded g ss s rows.old (tracks_to from lanes.old) }
     requires shown { All (λ (k : TaskKept).
         IsRunOrReady (slice_index_or ready.now k.task None) k) rows.old.tasks }
-    ensures { OnOk result ((g : Group) (ss : List Strip) (s : Strip) → from ≡ length ss → from < to
+    requires rested { AreRested ready.now lanes.old.tasks.items rows.old.tasks }
+    ensures begun { OnOk result ((g : Group) (ss : List Strip) (s : Strip) → from ≡ length ss → from < to
         → HasEnded g ss s rows.old (tracks_to from lanes.old)
         → HasBegun g ready.now (ss ++ replicate (to - from) s) rows.new (tracks_to to lanes.new)) }
+    ensures still { OnOk result ((g : Group)
+        → AreStill ready.now lanes.new.tasks.items rows.new.tasks) }
 {
     take_tasks(
         alloc,

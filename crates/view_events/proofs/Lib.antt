@@ -1,4 +1,3 @@
-pub mod Missed
 pub mod Marked
-pub mod Tabled
+pub mod Timed
 pub mod TextTracks

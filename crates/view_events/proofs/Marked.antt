@@ -1,59 +1,18 @@
--- The marks of jobs, read off their lines; and tracks with these.
-use Rattle.std.proofs.Common.{◌≡◌, ◌∙◌, ℕ, zero, suc, true, ◌+◌, ◌<◌, ◌≤◌, List, [], ◌∷◌, ◌++◌, length, map, get_or, set, refl, sym, ap, subst, arith, All}
-use Rattle.std.specs.Prelude.{◌==◌, nat_le, None, Some, if◌then◌else◌}
-use Rattle.std.proofs.lemmas.List.{get_or-map, length-map, map-append, map-set}
-use Rattle.rt_rules.specs.Numbers.{has, numbers_from}
+-- Tracks with the marks of the jobs of their tasks.
+use Rattle.std.proofs.Common.{◌≡◌, ◌∙◌, ℕ, zero, suc, true, ◌+◌, ◌<◌, List, [], ◌∷◌, length, map, get_or, set, refl, sym, ap, subst, arith, All}
+use Rattle.std.specs.Prelude.{◌==◌}
+use Rattle.std.proofs.lemmas.List.{get_or-map, length-map, map-set}
+use Rattle.rt_rules.specs.Numbers.{has}
 use Rattle.rt_rules.proofs.BoolLaws.{or_true}
 use Rattle.rt_rules.proofs.MemberLaws.{equal_self}
 use Rattle.rt_model.specs.Group as groups
 use Rattle.rt_model.specs.Group.{Group}
-use Rattle.rt_model.specs.Past.{Past, now}
-use Rattle.trace_views.specs.JobRows as views
-use Rattle.trace_views.specs.JobRows.{job_row}
+use Rattle.rt_model.specs.Past.{Past}
 use Rattle.chart_rows.proofs.Changed.{changed, changed-all-at, changed-more}
-use Rattle.job_facts.proofs.Jobs.{map-last}
-use Rattle.job_views.specs.declared.row.JobRow.{JobRow}
-use Rattle.job_views.specs.RowsShown.{row_shown}
-use Rattle.event_lines.specs.declared.tracks.JobMarks as declared
-use Rattle.event_lines.specs.Shown.{job_marks_shown}
-use Rattle.event_lines.specs.Tracks.{GroupTracks, JobMarks, TaskTrack}
-use Rattle.event_lines.specs.TracksOf.{job_marks, task_track, tracks_of}
+use Rattle.event_lines.specs.Tracks.{GroupTracks, TaskTrack}
+use Rattle.event_lines.specs.TracksOf.{task_track, tracks_of}
 use Rattle.span_feed.specs.Spanned.{unmarked}
-use Rattle.view_events.specs.inside.JobMarks.{HasTaskOf, IsRowOf, due_by, with_marks}
-use Rattle.view_events.proofs.Missed.{missed-is}
-
--- what a line gives by a clock
-abbrev pub given_by : ℕ → views.JobRow → JobMarks
-given_by clock r = record {
-  job = r.job;
-  release = if nat_le r.release clock then Some r.release else None;
-  deadline = due_by clock r;
-  end = r.end;
-}
-
-of-row : (g : Group) (past : Past) (t k : ℕ) → 1 ≤ k → given_by (now past) (job_row g t past k) ≡ job_marks g t past k
-unfolding job_row
-of-row g past t k one =
-    ap (λ b. record (given_by (now past) (job_row g t past k)) {
-      deadline = if nat_le (job_row g t past k).deadline (now past) then Some (record { tick = (job_row g t past k).deadline; missed = b }) else None;
-    }) (missed-is g t k past one)
-
-pub marks-given : (g : Group) (past : Past) (t clock : ℕ) (row : JobRow) → IsRowOf g past t clock row → given_by clock (row_shown row) ≡ job_marks g t past row.job
-marks-given g past t clock row is = ap (λ n. given_by n (row_shown row)) is.clock_is ∙ ap (given_by (now past)) is.row_is ∙ of-row g past t row.job is.first
-
-row-number : (g : Group) (t k : ℕ) (past : Past) (r : views.JobRow) → r ≡ job_row g t past k → r.job ≡ k
-unfolding job_row
-row-number g t k past r is = ap (λ (x : views.JobRow). x.job) is
-
--- one more job
-pub marks-next : (g : Group) (past : Past) (t clock i : ℕ) (row : JobRow) (mark : declared.JobMarks) (old new : List declared.JobMarks) → clock ≡ now past
-    → row_shown row ≡ job_row g t past (i + 1) → (IsRowOf g past t clock row → job_marks_shown mark ≡ job_marks g t past row.job) → new ≡ old ++ mark ∷ []
-    → map job_marks_shown old ≡ map (job_marks g t past) (numbers_from 1 i) → map job_marks_shown new ≡ map (job_marks g t past) (numbers_from 1 (i + 1))
-marks-next g past t clock i row mark old new at is marked put before =
-    let number : row.job ≡ i + 1 = row-number g t (i + 1) past (row_shown row) is in
-    let shown = marked (record { clock_is = at; first = omega (arith, number); row_is = is ∙ ap (job_row g t past) (sym number) }) ∙ ap (job_marks g t past) number in
-    let next : 1 + i ≡ i + 1 = omega arith in
-    ap (map job_marks_shown) put ∙ map-append job_marks_shown old (mark ∷ []) ∙ (λ j. before j ++ shown j ∷ []) ∙ sym (map-last (job_marks g t past) 1 i ∙ ap (λ n. map (job_marks g t past) (numbers_from 1 i) ++ job_marks g t past n ∷ []) next)
+use Rattle.view_events.specs.inside.JobMarks.{HasTaskOf, with_marks}
 
 -- ---- the tracks of a group
 

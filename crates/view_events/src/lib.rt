@@ -2,7 +2,6 @@
 #![tactic(auto)]
 
 mod checked;
-mod job_marks;
 mod keeper;
 mod recording;
 mod tracks;

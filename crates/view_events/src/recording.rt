@@ -3,7 +3,7 @@ ghost use Rattle.std.specs.Prelude.{◌≡◌, ℕ};
 ghost use Rattle.view_events.specs.inside.Recordings.{IsMoved, IsRecorded, group_of, spare};
 
 use block_counts::Seen;
-use job_views::JobTable;
+use job_marks::JobTimes;
 use rank_afresh::Afresh;
 use rt_base::{GroupNo, NoMemory, Tick};
 use rt_rules::Reply;
@@ -14,12 +14,12 @@ use trace_text::cpus_of;
 use view_replay::{Player, Replay};
 use why_lines::{GroupSet, resvs_of, tasks_of};
 
-/// A group whose steps are taken, its spans and the table of its jobs so far.
+/// A group whose steps are taken, its spans and the times of its jobs so far.
 #[derive(Drop)]
 pub(crate) struct Recording {
     pub(crate) replay: Replay,
     pub(crate) feed: SpanFeed,
-    pub(crate) table: JobTable,
+    pub(crate) times: JobTimes,
 }
 
 impl Player for Recording {
@@ -47,12 +47,12 @@ impl Player for Recording {
             resvs: resvs.as_slice(),
         };
         let replay = Replay::open(alloc, setup, group, room)?;
-        let feed = SpanFeed::open(alloc, parts, &members, replay.afresh())?;
-        let table = JobTable::open(alloc, parts.tasks.as_slice().len() as u32)?;
+        let feed = SpanFeed::open(alloc, parts, &members, replay.afresh(), room)?;
+        let times = JobTimes::open(alloc, parts.tasks.as_slice().len() as u32)?;
         Ok(Recording {
             replay,
             feed,
-            table,
+            times,
         })
     }
 
@@ -60,19 +60,19 @@ impl Player for Recording {
         let Recording { replay, feed, .. } = self;
         feed.turn(alloc, replay.afresh(), replay.now(), tick)?;
         replay.clock(tick);
-        feed.see(alloc, replay.afresh())
+        feed.see(alloc, replay.afresh(), replay.now())
     }
 
     fn answer(&mut self, alloc: Global, parts: &Parts, step: Step) -> Result<Reply, NoMemory> {
         let Recording {
             replay,
             feed,
-            table,
+            times,
         } = self;
         let mut unit = feed.foretell(alloc, parts, replay.afresh(), step.cpu, step.act)?;
         let act = replay.act(step);
         feed.act(alloc, replay.afresh(), &act, &mut unit)?;
-        table.feed(alloc, replay.now(), &act)?;
+        times.feed(replay.now(), &act)?;
         Ok(act.reply)
     }
 

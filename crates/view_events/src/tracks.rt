@@ -7,11 +7,9 @@ ghost use Rattle.event_lines.specs.TracksOf.{tracks_of};
 ghost use Rattle.view_events.specs.inside.JobMarks.{AreJobsOf, HasTaskOf, with_marks};
 ghost use Rattle.view_events.specs.inside.Recordings.{IsRecorded, group_of};
 
-use crate::job_marks::marks_of_jobs;
 use crate::recording::Recording;
-use block_counts::Seen;
 use event_lines::{GroupTracks, TaskTrack};
-use job_views::JobTable;
+use job_marks::JobTimes;
 use rt_base::{NoMemory, Tick};
 use rt_task::{Setup, Task};
 use std::alloc::Global;
@@ -20,20 +18,19 @@ use std::alloc::Global;
 fn mark(
     alloc: Global,
     tasks: &[Task],
-    table: &JobTable,
+    times: &JobTimes,
     clock: Tick,
-    requests: &[Seen],
     track: &mut TaskTrack,
 ) -> Result<(), NoMemory>
-    requires { (g : Group) × (past : Past) × AreJobsOf g past tasks.now table.now clock.0 requests.now
+    requires { (g : Group) × (past : Past) × AreJobsOf g past tasks.now times.now clock.0
         × HasTaskOf g (task_track_shown track.old) }
     ensures { OnOk result ((g : Group) (past : Past)
-        → AreJobsOf g past tasks.now table.now clock.0 requests.now
+        → AreJobsOf g past tasks.now times.now clock.0
         → HasTaskOf g (task_track_shown track.old)
         → task_track_shown track.new ≡ with_marks g past (task_track_shown track.old)) }
 {
     let task = &tasks[track.task.0 as usize - 1];
-    track.jobs = marks_of_jobs(alloc, table, task, clock, requests)?;
+    track.jobs = times.marks(alloc, task, clock)?;
     Ok(())
 }
 
@@ -41,21 +38,20 @@ fn mark(
 fn mark_all(
     alloc: Global,
     tasks: &[Task],
-    table: &JobTable,
+    times: &JobTimes,
     clock: Tick,
-    requests: &[Seen],
     tracks: &mut [TaskTrack],
 ) -> Result<(), NoMemory>
-    requires { (g : Group) × (past : Past) × AreJobsOf g past tasks.now table.now clock.0 requests.now
+    requires { (g : Group) × (past : Past) × AreJobsOf g past tasks.now times.now clock.0
         × All (HasTaskOf g) (map task_track_shown tracks.old) }
     ensures { OnOk result ((g : Group) (past : Past)
-        → AreJobsOf g past tasks.now table.now clock.0 requests.now
+        → AreJobsOf g past tasks.now times.now clock.0
         → All (HasTaskOf g) (map task_track_shown tracks.old)
         → map task_track_shown tracks.new
         ≡ map (with_marks g past) (map task_track_shown tracks.old)) }
 {
     for track in tracks.iter_mut() {
-        mark(alloc, tasks, table, clock, requests, track)?;
+        mark(alloc, tasks, times, clock, track)?;
     }
     Ok(())
 }
@@ -64,20 +60,19 @@ fn mark_all(
 fn marked(
     alloc: Global,
     tasks: &[Task],
-    table: &JobTable,
+    times: &JobTimes,
     clock: Tick,
-    requests: &[Seen],
     mut tracks: GroupTracks,
 ) -> Result<GroupTracks, NoMemory>
-    requires { (g : Group) × (past : Past) × AreJobsOf g past tasks.now table.now clock.0 requests.now
+    requires { (g : Group) × (past : Past) × AreJobsOf g past tasks.now times.now clock.0
         × All (HasTaskOf g) (group_tracks_shown tracks).tasks }
     ensures { let shown = group_tracks_shown tracks in IfOk result (λ x. (g : Group) (past : Past)
-        → AreJobsOf g past tasks.now table.now clock.0 requests.now
+        → AreJobsOf g past tasks.now times.now clock.0
         → All (HasTaskOf g) shown.tasks → group_tracks_shown x
         ≡ record shown { tasks = map (with_marks g past) shown.tasks }) }
 {
     let rows = tracks.tasks.as_mut_slice();
-    mark_all(alloc, tasks, table, clock, requests, rows)?;
+    mark_all(alloc, tasks, times, clock, rows)?;
     Ok(tracks)
 }
 
@@ -96,16 +91,9 @@ pub(crate) fn tracks_of(
     let Recording {
         replay,
         feed,
-        table,
+        times,
     } = recording;
     let clock = replay.now();
     let tracks = feed.close(alloc, replay.afresh(), clock)?;
-    marked(
-        alloc,
-        parts.tasks.as_slice(),
-        &table,
-        clock,
-        replay.requests(),
-        tracks,
-    )
+    marked(alloc, parts.tasks.as_slice(), &times, clock, tracks)
 }

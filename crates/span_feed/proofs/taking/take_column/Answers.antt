@@ -1,12 +1,13 @@
-use Rattle.std.proofs.Common.{◌≡◌, ◌∙◌, length, map, refl, sym, ap, subst, arith, All}
+use Rattle.std.proofs.Common.{◌≡◌, ◌∙◌, List, length, map, refl, sym, ap, subst, arith, All}
 use Rattle.std.specs.Prelude.{None, slice_index_or}
 use Rattle.std.proofs.lemmas.List.{length-map, with_items_is}
 use Rattle.chart_rows.specs.Rows.{RowsKept, TaskKept, task_cleared}
 use Rattle.event_lines.specs.Shown.{cpu_track_shown, resv_track_shown}
 use Rattle.span_feed.specs.Begun.{IsBegun, IsRunOrReady}
 use Rattle.span_feed.specs.Feeds.{tracks_to}
-use Rattle.span_feed.specs.Lane.{track_to}
+use Rattle.span_feed.specs.Lane.{TaskLane, track_to}
 use Rattle.span_feed.specs.Spanned.{cpu_cleared, cpu_more, paired, resv_cleared, resv_more, task_more}
+use Rattle.span_feed.specs.Still.{AreRested, AreStill}
 use Rattle.span_feed.proofs.Tracking.{column-taken, cpus-beside, resvs-beside, tasks-beside}
 use Rattle.span_feed.proofs.taking.take_column.Goals as goal
 
@@ -22,6 +23,11 @@ take_tasks-requires-clause-shown c =
     let is = c.as_mut_slice.ensures.value ∙ ap (λ (v : RowsKept). v.tasks) c.rows.view_is in
     subst (All (λ (k : TaskKept). IsRunOrReady (slice_index_or c.args.ready.now k.task None) k)) (sym is) c.requires.shown
 
+pub take_tasks-requires-clause-rested : goal.take_tasks-requires-clause-rested
+take_tasks-requires-clause-rested c =
+    let is = c.as_mut_slice.ensures.value ∙ ap (λ (v : RowsKept). v.tasks) c.rows.view_is in
+    subst (λ (ls : List TaskLane). AreRested c.args.ready.now ls c.as_mut_slice.result.now) (sym c.as_mut_slice-2.ensures.value) (subst (AreRested c.args.ready.now c.args.lanes.now.tasks.items) (sym is) c.requires.rested)
+
 pub take_cpus-requires : goal.take_cpus-requires
 take_cpus-requires c =
     let h = c.requires.ended in
@@ -36,8 +42,8 @@ take_resvs-requires c =
     ap length c.as_mut_slice-6.ensures.value ∙ sym (length-map c.args.lanes.now.resvs.items resv_track_shown)
     ∙ resvs-beside h.0 h.1 h.2 c.args.rows.now (tracks_to c.args.from c.args.lanes.now) h.3.rows_are h.3.tracks_are ∙ sym (ap length is)
 
-pub returns : goal.returns
-returns c = λ g ss s at later has.
+pub returns-clause-begun : goal.returns-clause-begun
+returns-clause-begun c = λ g ss s at later has.
     let tasks_is = c.as_mut_slice.ensures.value ∙ ap (λ (v : RowsKept). v.tasks) c.rows.view_is in
     let tasks_long : length c.take_tasks.new.rows ≡ c.rows.inside.tasks.len = omega (arith, c.take_tasks.auto.rows, ap length c.as_mut_slice.ensures.value, c.rows.inside.tasks.ok.0) in
     let lanes_long : length c.take_tasks.new.lanes ≡ c.args.lanes.now.tasks.len = omega (arith, c.take_tasks.auto.lanes, ap length c.as_mut_slice-2.ensures.value, c.args.lanes.now.tasks.ok.0) in
@@ -64,3 +70,11 @@ returns c = λ g ss s at later has.
       spans = column-taken g ss s c.args.from c.args.to at later c.args.rows.now _ (tracks_to c.args.from c.args.lanes.now) _ tasks cpus resvs refl task_tracks cpu_tracks resv_tracks has;
       begun = subst (All (IsBegun g c.args.ready.now)) (sym new_rows) (c.in_ok-take_tasks.ensures.begun g);
     }
+
+pub returns-clause-still : goal.returns-clause-still
+returns-clause-still c = λ g.
+    let tasks_long : length c.take_tasks.new.rows ≡ c.rows.inside.tasks.len = omega (arith, c.take_tasks.auto.rows, ap length c.as_mut_slice.ensures.value, c.rows.inside.tasks.ok.0) in
+    let lanes_long : length c.take_tasks.new.lanes ≡ c.args.lanes.now.tasks.len = omega (arith, c.take_tasks.auto.lanes, ap length c.as_mut_slice-2.ensures.value, c.args.lanes.now.tasks.ok.0) in
+    let rows = with_items_is c.rows.inside.tasks c.take_tasks.new.rows tasks_long in
+    let lanes = with_items_is c.args.lanes.now.tasks c.take_tasks.new.lanes lanes_long in
+    subst (λ (x : List TaskLane × List TaskKept). AreStill c.args.ready.now x.0 x.1) (λ i. (sym lanes i, sym rows i)) (c.in_ok-take_tasks.ensures.still g)

@@ -8,5 +8,5 @@ use Rattle.view_events.proofs.tracks.mark_all.Given as goal
 
 -- those so far are marked
 abbrev pub invariant-loop-track : goal.invariant-loop-track
-invariant-loop-track l = (g : Group) (past : Past) → AreJobsOf g past l.tasks l.table l.clock.0 l.requests → All (HasTaskOf g) (map task_track_shown l.fn.tracks)
+invariant-loop-track l = (g : Group) (past : Past) → AreJobsOf g past l.tasks l.times l.clock.0 → All (HasTaskOf g) (map task_track_shown l.fn.tracks)
     → map task_track_shown l.tracks ≡ changed (with_marks g past) l.track-index (map task_track_shown l.fn.tracks)

@@ -35,7 +35,6 @@ marked-requires c =
         few = omega (arith, is.at.ranked.few);
         clock_is = c.now-clock.ensures.at past is.at;
         count = is.tasks;
-        requests_are = c.requests.ensures past is.at;
       },
       subst (All (HasTaskOf g)) (sym tasks) (unmarked-tasks g past),
     )
@@ -47,14 +46,13 @@ returns c =
     let closed = c.in_ok-tracks.ensures past (c.now-clock.ensures.at past is.at) (c.afresh.ensures.at past is.at) (subst (λ (x : Group). IsFed x past c.args.recording.feed) (sym c.afresh.ensures.group) is.fed)
     ∙ ap (λ (x : Group). unmarked (tracks_of x past)) c.afresh.ensures.group in
     let tasks = ap (λ (x : GroupTracks). x.tasks) closed in
-    let are : AreJobsOf g past c.as_slice.result.now c.args.recording.table c.now-clock.result.0 c.requests.result.now = record {
+    let are : AreJobsOf g past c.as_slice.result.now c.args.recording.times c.now-clock.result.0 = record {
       tasks_are = c.as_slice.ensures ∙ ap (λ (p : Parts). p.tasks) (c.parts-parts.ensures.parts ∙ c.requires.setup);
       valid = is.at.whole.valid;
       kept = is.kept;
       few = omega (arith, is.at.ranked.few);
       clock_is = c.now-clock.ensures.at past is.at;
       count = is.tasks;
-      requests_are = c.requests.ensures past is.at;
     } in
     let all = subst (All (HasTaskOf g)) (sym tasks) (unmarked-tasks g past) in
     is_marked g past are all ∙ marked-are g past (group_tracks_shown c.in_ok-tracks.tracks) closed) c.marked.ensures

@@ -16,4 +16,4 @@ end_tick-requires-clause-held c =
 pub returns : goal.returns
 returns c = λ past now_is at fed.
     let ended = c.in_ok-end_tick.ensures.ended past (ticks_below past (now past)) (tick_strip past (now past)) at (newest-strip past) (now_is ∙ sym (length-below past (now past))) fed.0 in
-    c.in_ok-tracks.ensures ∙ ap (λ n. tracks_to n c.end_tick.new.self.lanes) (next-long past c.args.now.0 now_is) ∙ ended.spans.tracks_are ∙ all-over (group_of c.args.afresh.now) past
+    c.in_ok-tracks.ensures ∙ ap (λ n. tracks_to n c.end_tick.new.self.lanes) (next-long past c.args.now.0 now_is) ∙ ended.column.spans.tracks_are ∙ all-over (group_of c.args.afresh.now) past

@@ -2,16 +2,16 @@ use Rattle.std.proofs.Common.{◌≡◌, ◌∙◌, ◌∷◌, ap, length, subst
 use Rattle.rt_model.specs.Group.{Group}
 use Rattle.rt_model.specs.Histories.{after, reply_to}
 use Rattle.rt_model.specs.Outcomes.{past_act}
-use Rattle.rt_model.specs.Past.{Acted, Clock, Past, PastAct}
-use Rattle.rt_model.specs.Steps.{IsStepOf}
+use Rattle.rt_model.specs.Past.{Acted, Clock, Past, PastAct, now}
 use Rattle.rt_model.proofs.Steps.{after-acted}
 use Rattle.chart_rows.specs.Foretold.{IsForetold}
 use Rattle.rank_afresh.specs.Standing as ranker
 use Rattle.span_feed.specs.Feeds.{IsFed}
+use Rattle.job_marks.specs.JobTimes.{KeepsTimes}
+use Rattle.job_marks.proofs.Feeding.{kept-clock}
 use Rattle.view_acts.specs.ShownActs.{act_shown}
 use Rattle.view_replay.specs.Replays as replays
 use Rattle.view_replay.proofs.Acting.{reply-of}
-use Rattle.view_tables.proofs.Playing.{can-feed, kept-after}
 use Rattle.view_events.specs.declared.recording.Recording.{Recording}
 use Rattle.view_events.specs.inside.Recordings.{IsRecorded, group_of}
 use Rattle.view_events.proofs.recording.RecordingPlayer.answer.Goals as goal
@@ -50,14 +50,6 @@ act-requires c =
       );
     }
 
-pub feed-requires-clause-next : goal.feed-requires-clause-next
-feed-requires-clause-next c =
-    let past = c.requires.can.1 in
-    let is = c.requires.can.2.moved_to.1 in (
-      _,
-      can-feed c.args.self.now.table c.args.self.now.replay c.args.step past is.at (act_shown c.act-act.result) (c.act-act.ensures.act past is.at) c.now.result.0 (c.now.ensures.at _ (c.act-act.ensures.at past is.at)) (subst (λ (g : Group). IsStepOf g c.args.step) (sym c.requires.can.2.moved_to.0) c.requires.can.2.of_group) is.kept,
-    )
-
 pub returns-clause-at : goal.returns-clause-at
 returns-clause-at c = λ whole past answered.
     let is = answered.moved_to.1 in
@@ -76,13 +68,14 @@ returns-clause-at c = λ whole past answered.
     (subst (λ (x : Group). IsForetold x (record { act = d; before = Clock tick ∷ past }) c.in_ok-unit.unit) same
     (subst (λ (x : PastAct). IsForetold (ranker.group_of c.afresh.result.now) (record { act = x; before = Clock tick ∷ past }) c.in_ok-unit.unit) (sym shown) told))
     (subst (λ (x : Group). IsFed x (Clock tick ∷ past) c.args.self.now.feed) same fed) in
-    let can = can-feed c.args.self.now.table c.args.self.now.replay step past is.at d act_is c.now.result.0 (c.now.ensures.at _ (c.act-act.ensures.at past is.at)) (subst (λ (x : Group). IsStepOf x step) (sym answered.moved_to.0) answered.of_group) is.kept in
-    let now : Recording = record { replay = c.act-act.new.self; feed = c.act.new.self; table = c.feed.new.self } in (
+    let clock = c.now.ensures.at _ (c.act-act.ensures.at past is.at) ∙ ap now then in
+    let kept = c.in_ok-feed.ensures.kept (Clock tick ∷ past) (kept-clock c.args.self.now.times tick past is.kept) clock in
+    let made : Recording = record { replay = c.act-act.new.self; feed = c.act.new.self; times = c.feed.new.self } in (
       c.act-act.ensures.group ∙ answered.moved_to.0,
-      subst (λ (x : Group). IsRecorded (after x step past) now) answered.moved_to.0 (record {
+      subst (λ (x : Group). IsRecorded (after x step past) made) answered.moved_to.0 (record {
         at = c.act-act.ensures.at past is.at;
         fed = subst (λ (p : Past). IsFed (replays.group_of c.act-act.new.self) p c.act.new.self) (sym then) (subst (λ (x : Group). IsFed x (Acted d ∷ Clock tick ∷ past) c.act.new.self) c.afresh-2.ensures.group acted);
-        kept = kept-after c.args.self.now.table c.args.self.now.replay step past is.at d act_is c.feed.new.self (c.in_ok-feed.ensures.kept _ can);
+        kept = subst (KeepsTimes c.feed.new.self) (sym then) kept;
         tasks = c.in_ok-feed.ensures.count ∙ is.tasks ∙ sym (ap (λ (x : Group). length x.setup.tasks) c.act-act.ensures.group);
       }),
     )

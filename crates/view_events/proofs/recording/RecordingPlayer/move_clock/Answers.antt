@@ -25,6 +25,7 @@ see-requires c =
         tick,
         c.afresh-2.ensures.moved past tick moved,
         subst (λ (g : Group). IsTurned g tick past c.turn.new.self) (c.afresh.ensures.group ∙ sym c.clock.ensures.group ∙ sym c.afresh-2.ensures.group) turned,
+        c.now-2.ensures.moved past tick moved,
       );
     }
 
@@ -40,7 +41,7 @@ returns-clause-moved c =
         at = moved;
         fed =
             subst (λ (g : Group). IsFed g (Clock tick ∷ past) c.see.new.self) c.afresh-2.ensures.group
-            (seen past tick (c.afresh-2.ensures.moved past tick moved)
+            (seen past tick (c.afresh-2.ensures.moved past tick moved) (c.now-2.ensures.moved past tick moved)
             (subst (λ (g : Group). IsTurned g tick past c.turn.new.self) (c.afresh.ensures.group ∙ sym c.clock.ensures.group ∙ sym c.afresh-2.ensures.group) turned));
         kept = is.kept;
         tasks = is.tasks ∙ sym (ap (λ (g : Group). length g.setup.tasks) c.clock.ensures.group);

@@ -25,9 +25,9 @@ returns-clause-opened c = (
   record {
     at = c.in_ok-replay.ensures.opened;
     fed = subst (λ (g : Group). IsFed g [] c.in_ok-feed.feed) c.afresh.ensures.group c.in_ok-feed.ensures;
-    kept = c.in_ok-table.ensures.opened;
+    kept = c.in_ok-times.ensures.opened;
     tasks =
-        c.in_ok-table.ensures.count ∙ ap length c.as_slice-4.ensures ∙ ap (λ (p : Parts). length p.tasks) c.parts-parts.ensures.parts
+        c.in_ok-times.ensures.count ∙ ap length c.as_slice-4.ensures ∙ ap (λ (p : Parts). length p.tasks) c.parts-parts.ensures.parts
         ∙ sym (ap (λ (g : Group). length g.setup.tasks) c.in_ok-replay.ensures.group);
   },
 )
